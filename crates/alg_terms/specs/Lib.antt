@@ -1,0 +1,5 @@
+pub mod Keys
+pub mod Tree
+pub mod Order
+pub mod Code
+pub mod Symbols

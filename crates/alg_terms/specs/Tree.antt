@@ -1,0 +1,67 @@
+-- Trees, statements and relations.
+use Rattle.std.specs.Prelude.{◌≡◌, ℕ, suc, ◌+◌, List, [], ◌∷◌, refl}
+use Rattle.std.proofs.Common.{ap}
+use Rattle.alg_terms.specs.declared.sorts.Sort.{Sort}
+use Rattle.alg_terms.specs.declared.symbols.Sym.{Sym}
+use Rattle.alg_terms.specs.declared.relations.Rel.{Rel}
+
+mutual
+  -- a literal with its sort, a variable by its declaration with its sort, or a symbol with its sort and arguments
+  pub data Tree : Type 0 where
+    Lit : Sort → ℕ → Tree
+    Var : ℕ → Sort → Tree
+    App : Sym → Sort → Trees → Tree
+
+  -- a list of trees
+  pub data Trees : Type 0 where
+    Nil : Trees
+    Cons : Tree → Trees → Trees
+
+abbrev pub to_list : Trees → List Tree
+to_list Nil = []
+to_list (Cons t ts) = t ∷ to_list ts
+
+abbrev pub of_list : List Tree → Trees
+of_list [] = Nil
+of_list (t ∷ ts) = Cons t (of_list ts)
+
+pub to_list-of_list : (ts : List Tree) → to_list (of_list ts) ≡ ts
+to_list-of_list [] = refl
+to_list-of_list (t ∷ ts) = ap (λ r. t ∷ r) (to_list-of_list ts)
+
+pub of_list-to_list : (ts : Trees) → of_list (to_list ts) ≡ ts
+of_list-to_list Nil = refl
+of_list-to_list (Cons t ts) = ap (Cons t) (of_list-to_list ts)
+
+-- how many nodes a tree has, written out
+abbrev mutual
+  pub node_count : Tree → ℕ
+  node_count (Lit s n) = 1
+  node_count (Var d s) = 1
+  node_count (App f s ts) = 1 + node_counts ts
+
+  pub node_counts : Trees → ℕ
+  node_counts Nil = 0
+  node_counts (Cons t ts) = node_count t + node_counts ts
+
+pub record Statement : Type 0 where
+  pub rel : Rel
+  pub sort : Sort
+  pub lhs : Tree
+  pub rhs : Tree
+
+abbrev pub sort_of_tree : Tree → Sort
+sort_of_tree (Lit s n) = s
+sort_of_tree (Var d s) = s
+sort_of_tree (App f s xs) = s
+
+-- a number that falls from a tree to its parts, and from a list to its head and its tail
+abbrev mutual
+  pub tree_weight : Tree → ℕ
+  tree_weight (Lit s n) = 0
+  tree_weight (Var d s) = 0
+  tree_weight (App f s ts) = suc (trees_weight ts)
+
+  pub trees_weight : Trees → ℕ
+  trees_weight Nil = 0
+  trees_weight (Cons t ts) = suc (tree_weight t + trees_weight ts)

@@ -1,0 +1,13 @@
+//! The words in which everything else is said: sorts, symbols, relations, typed trees and
+//! statements, the order of trees, and the causes for which a proof line is bad.
+#![tactic(auto)]
+
+pub mod causes;
+pub mod relations;
+pub mod sorts;
+pub mod symbols;
+
+pub use causes::BadCause;
+pub use relations::Rel;
+pub use sorts::Sort;
+pub use symbols::{Place, Sym};
