@@ -1,13 +1,12 @@
-// A library with one function.
+//! An arena of typed trees: each tree is kept once and named by an id, and contracts see an id as its tree.
 #![tactic(auto)]
 
-ghost use Rattle.std.specs.Prelude.{◌≡◌};
-ghost use Rattle.alg_expr.specs.Echo.{echo_of};
+pub mod arena;
+pub mod ids;
+pub mod memory;
+mod nodes;
 
-// The `ensures` clause is the contract: what `echo` returns is `echo_of` of its argument, a definition
-// in `specs/Echo.antt`, which a caller's clause can cite too.
-pub fn echo(x: usize) -> usize
-    ensures { result ≡ echo_of x }
-{
-    x
-}
+pub use alg_terms::{BadCause, Place, Rel, Sort, Sym};
+pub use arena::{Arena, ExprFault};
+pub use ids::{ExprId, Stmt, View};
+pub use memory::Memory;

@@ -1,0 +1,30 @@
+-- One look at two trees.
+use Rattle.std.specs.Prelude.{◌≡◌, ℕ, ◌<◌, List, Contains}
+use Rattle.std.specs.declared.cmp.Ordering.TheVariants.{Less, Equal, Greater}
+use Rattle.alg_terms.specs.Tree.{Tree, of_list}
+use Rattle.alg_terms.specs.Order.{tree_cmp, trees_cmp}
+use Rattle.alg_expr.specs.declared.ids.ExprId.{ExprId}
+use Rattle.alg_expr.specs.declared.arena.Step.{Step}
+use Rattle.alg_expr.specs.declared.arena.Step.TheVariants as step
+use Rattle.alg_expr.specs.Ids.{tree_of, IsIn, trees_at}
+
+-- x and y are parts that come before a and b and have their order
+pub record HaveOrder (ts : List Tree) (a b x y : ExprId) : Type 0 where
+  pub left : x.index < a.index
+  pub right : y.index < b.index
+  pub order : tree_cmp (tree_of ts x) (tree_of ts y) ≡ tree_cmp (tree_of ts a) (tree_of ts b)
+
+abbrev pub Steps : List Tree → ExprId → ExprId → Step → Type 0
+Steps ts a b (step.Decided order) = order ≡ tree_cmp (tree_of ts a) (tree_of ts b)
+Steps ts a b (step.Deeper x y) = HaveOrder ts a b x y
+
+-- x and y are the first parts that differ
+pub record AreApart (ts : List Tree) (xs ys : List ExprId) (x y : ExprId) : Type 0 where
+  pub left : Contains xs x
+  pub right : Contains ys y
+  pub order : tree_cmp (tree_of ts x) (tree_of ts y) ≡ trees_cmp (of_list (trees_at ts xs)) (of_list (trees_at ts ys))
+  pub differ : tree_cmp (tree_of ts x) (tree_of ts y) ≡ Equal → ⊥
+
+abbrev pub StepsInto : List Tree → List ExprId → List ExprId → Step → Type 0
+StepsInto ts xs ys (step.Decided order) = order ≡ trees_cmp (of_list (trees_at ts xs)) (of_list (trees_at ts ys))
+StepsInto ts xs ys (step.Deeper x y) = AreApart ts xs ys x y
