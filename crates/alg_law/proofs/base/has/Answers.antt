@@ -1,0 +1,5 @@
+use Rattle.alg_law.proofs.HasLemmas.{has_class-decides}
+use Rattle.alg_law.proofs.base.has.Goals as goal
+
+pub returns-clause-has : goal.returns-clause-has
+returns-clause-has c = has_class-decides c.args.base.now c.args.sort c.args.class c.test.result c.test.ensures

@@ -1,0 +1,17 @@
+use crate::classes::Class;
+use alg_expr::{Sort, Stmt};
+
+/// A declaration of a base. Declarations are numbered from 0 in their order.
+#[derive(Drop)]
+pub enum Declared {
+    /// A type variable.
+    Carrier { name: String },
+    /// A class of the type variable that is declaration `sort`.
+    Instance { sort: u32, class: Class },
+    /// A variable of a sort.
+    Variable { name: String, sort: Sort },
+    /// A function with the sorts of its arguments and of its value.
+    Function { name: String, args: Vec<Sort>, result: Sort },
+    /// A statement that is taken to hold.
+    Hypothesis { name: String, stmt: Stmt },
+}

@@ -1,0 +1,12 @@
+//! Classes, declarations and bases, and which trees are well sorted under a base.
+#![tactic(auto)]
+
+pub mod base;
+pub mod classes;
+pub mod declarations;
+pub mod marks;
+
+pub use base::{Base, has};
+pub use classes::Class;
+pub use declarations::Declared;
+pub use marks::Mark;
