@@ -92,12 +92,15 @@ of_sort (Some t) s = same_mark (sort_same t s)
 abbrev pub variable_mark : List Declaration → ℕ → Sort → Mark
 variable_mark ds d s = worse (sort_mark ds s) (of_sort (variable_of (slice_get ds d)) s)
 
+-- each sort is that of its place, as far as both go
+abbrev pub sorts_agree : List Sort → List Sort → Bool
+sorts_agree [] ts = true
+sorts_agree (s ∷ ss) [] = true
+sorts_agree (s ∷ ss) (t ∷ ts) = sort_same s t && sorts_agree ss ts
+
 -- the same sorts in order
 abbrev pub sorts_same : List Sort → List Sort → Bool
-sorts_same [] [] = true
-sorts_same [] (t ∷ ts) = false
-sorts_same (s ∷ ss) [] = false
-sorts_same (s ∷ ss) (t ∷ ts) = sort_same s t && sorts_same ss ts
+sorts_same ss ts = nat_eq (length ss) (length ts) && sorts_agree ss ts
 
 abbrev pub of_function : Option (List Sort × Sort) → Sort → List Sort → Mark
 of_function None s ts = BadName

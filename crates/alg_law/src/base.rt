@@ -1,6 +1,7 @@
 ghost use Rattle.std.specs.Prelude.{◌≡◌, ◌||◌, ◌↔◌, IsTrue, [], length, IfOk, slice_get};
 ghost use Rattle.alg_law.specs.Declarations.{declaration_of, declarations_of};
 ghost use Rattle.alg_law.specs.Having.{is_decl, instance_gives, instances_give, has_class, Has};
+ghost use Rattle.alg_law.specs.Looking.{IsSignature};
 ghost use Rattle.alg_law.specs.WellSorted.{is_type, variable_of, function_of};
 
 use crate::classes::{Class, any_gives, is_in, own};
@@ -74,13 +75,21 @@ impl Base {
     }
 
     // the sorts of the function that is declaration k
-    pub(crate) fn function(&self, k: u32) -> Option<(&[Sort], Sort)>
+    pub(crate) fn function(&self, k: u32) -> Option<Signature<'_>>
+        ensures { IsSignature result (function_of (slice_get self.now k)) }
     {
         match self.declared.get(k as usize) {
-            Some(Declared::Function { args, result, .. }) => Some((args.as_slice(), *result)),
+            Some(Declared::Function { args, result, .. }) => Some(Signature { args: args.as_slice(), result: *result }),
             _ => None,
         }
     }
+}
+
+/// The sorts of a declared function's arguments and value.
+#[derive(Clone, Copy)]
+pub(crate) struct Signature<'a> {
+    pub(crate) args: &'a [Sort],
+    pub(crate) result: Sort,
 }
 
 // whether one of the declarations is an instance that gives the class

@@ -9,4 +9,4 @@ pub mod marks;
 pub use base::{Base, has};
 pub use classes::Class;
 pub use declarations::Declared;
-pub use marks::Mark;
+pub use marks::{Mark, mark_for, mark_for_head, mark_for_sort, relates, worse_of};

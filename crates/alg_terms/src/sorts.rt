@@ -1,6 +1,7 @@
 ghost use Rattle.std.specs.Prelude.{◌≡◌};
 ghost use Rattle.alg_terms.specs.Keys.{sort_key};
 ghost use Rattle.alg_terms.specs.Order.{sort_cmp, sort_same};
+ghost use Rattle.alg_terms.specs.Symbols.{is_integral};
 
 use std::cmp::Ordering;
 
@@ -30,6 +31,18 @@ impl Sort {
         ensures { result ≡ sort_same self other }
     {
         self.compare(other).is_eq()
+    }
+
+    /// Whether this is ℕ or ℤ.
+    pub fn is_integral(self) -> bool
+        ensures { result ≡ is_integral self }
+    {
+        match self {
+            Sort::Nat => true,
+            Sort::Int => true,
+            Sort::Rat => false,
+            Sort::Decl(_) => false,
+        }
     }
 
     fn number(self) -> u64

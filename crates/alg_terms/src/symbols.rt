@@ -1,7 +1,7 @@
 ghost use Rattle.std.specs.Prelude.{◌≡◌, List, [], ◌∷◌, length, drop};
 ghost use Rattle.alg_terms.specs.Keys.{sym_key};
 ghost use Rattle.alg_terms.specs.Order.{sym_cmp};
-ghost use Rattle.alg_terms.specs.Symbols.{places, is_integral, serves, place_fits, places_fit, arguments_fit, is_built_in};
+ghost use Rattle.alg_terms.specs.Symbols.{places, serves, place_fits, places_fit, arguments_fit, is_built_in};
 
 use crate::sorts::Sort;
 use std::cmp::Ordering;
@@ -120,7 +120,7 @@ impl Sym {
     {
         match self {
             Sym::NatSub | Sym::Gcd | Sym::Lcm | Sym::Fact | Sym::Choose | Sym::Fib => sort.is(Sort::Nat),
-            Sym::IDiv | Sym::Mod => is_integer(sort),
+            Sym::IDiv | Sym::Mod => sort.is_integral(),
             _ => true,
         }
     }
@@ -173,17 +173,6 @@ impl Place {
             Place::OfNat => argument.is(Sort::Nat),
             Place::OfInt => argument.is(Sort::Int),
         }
-    }
-}
-
-fn is_integer(sort: Sort) -> bool
-    ensures { result ≡ is_integral sort }
-{
-    match sort {
-        Sort::Nat => true,
-        Sort::Int => true,
-        Sort::Rat => false,
-        Sort::Decl(_) => false,
     }
 }
 
