@@ -79,7 +79,10 @@ impl Base {
         ensures { IsSignature result (function_of (slice_get self.now k)) }
     {
         match self.declared.get(k as usize) {
-            Some(Declared::Function { args, result, .. }) => Some(Signature { args: args.as_slice(), result: *result }),
+            Some(Declared::Function { args, result, .. }) => Some(Signature {
+                args: args.as_slice(),
+                result: *result,
+            }),
             _ => None,
         }
     }

@@ -5,13 +5,28 @@ use alg_expr::{Sort, Stmt};
 #[derive(Drop)]
 pub enum Declared {
     /// A type variable.
-    Carrier { name: String },
+    Carrier {
+        name: String,
+    },
     /// A class of the type variable that is declaration `sort`.
-    Instance { sort: u32, class: Class },
+    Instance {
+        sort: u32,
+        class: Class,
+    },
     /// A variable of a sort.
-    Variable { name: String, sort: Sort },
+    Variable {
+        name: String,
+        sort: Sort,
+    },
     /// A function with the sorts of its arguments and of its value.
-    Function { name: String, args: Vec<Sort>, result: Sort },
+    Function {
+        name: String,
+        args: Vec<Sort>,
+        result: Sort,
+    },
     /// A statement that is taken to hold.
-    Hypothesis { name: String, stmt: Stmt },
+    Hypothesis {
+        name: String,
+        stmt: Stmt,
+    },
 }

@@ -27,7 +27,12 @@ pub enum Mark {
 
 /// The mark of a tree. `marks` are those of the first trees of the arena; it grows so that each tree is looked at
 /// once, and may be kept while the arena grows. After `Memory` its marks are still right.
-pub fn mark_for(marks: &mut Vec<Mark>, base: &Base, arena: &Arena, id: ExprId) -> Result<Mark, Memory>
+pub fn mark_for(
+    marks: &mut Vec<Mark>,
+    base: &Base,
+    arena: &Arena,
+    id: ExprId,
+) -> Result<Mark, Memory>
     requires here { IsIn arena.now id }
     requires marked { HasMarks base.now arena.now marks.old.items }
     ensures ok { IfOk result (λ m. m ≡ mark_of base.now (tree_of arena.now id)) }
@@ -46,7 +51,10 @@ pub fn mark_for_head(base: &Base, arena: &Arena, sym: Sym, sort: Sort, args: &[E
     requires { All (IsIn arena.now) args.now }
     ensures { result ≡ head_mark base.now sym sort (sorts_at arena.now args.now) }
 {
-    worse_of(mark_for_sort(base, sort), symbol(base, arena, sym, sort, args))
+    worse_of(
+        mark_for_sort(base, sort),
+        symbol(base, arena, sym, sort, args),
+    )
 }
 
 /// Good where the sort is built in or declared, else a bad name.
@@ -54,7 +62,11 @@ pub fn mark_for_sort(base: &Base, sort: Sort) -> Mark
     ensures { result ≡ sort_mark base.now sort }
 {
     match sort {
-        Sort::Decl(k) => if base.is_type(k) { Mark::Good } else { Mark::BadName },
+        Sort::Decl(k) => if base.is_type(k) {
+            Mark::Good
+        } else {
+            Mark::BadName
+        },
         _ => Mark::Good,
     }
 }
@@ -113,7 +125,10 @@ fn look(marks: &[Mark], base: &Base, arena: &Arena, id: ExprId) -> Mark
 fn literal(base: &Base, sort: Sort, value: u128) -> Mark
     ensures { result ≡ literal_mark base.now sort value }
 {
-    worse_of(mark_for_sort(base, sort), class_needed(has(base, sort, class_of_literal(value))))
+    worse_of(
+        mark_for_sort(base, sort),
+        class_needed(has(base, sort, class_of_literal(value))),
+    )
 }
 
 fn class_of_literal(value: u128) -> Class
@@ -143,7 +158,10 @@ fn same_needed(fits: bool) -> Mark
 fn variable(base: &Base, decl: u32, sort: Sort) -> Mark
     ensures { result ≡ variable_mark base.now decl sort }
 {
-    worse_of(mark_for_sort(base, sort), sort_needed(base.variable(decl), sort))
+    worse_of(
+        mark_for_sort(base, sort),
+        sort_needed(base.variable(decl), sort),
+    )
 }
 
 fn sort_needed(declared: Option<Sort>, sort: Sort) -> Mark
@@ -236,7 +254,8 @@ fn classes_serve(base: &Base, sym: Sym, sort: Sort) -> bool
         Sym::Add | Sym::Nsmul => has(base, sort, Class::AddMonoid),
         Sym::Mul => has(base, sort, Class::Semigroup),
         Sym::Neg | Sym::Sub | Sym::Zsmul => has(base, sort, Class::AddGroup),
-        Sym::Inv | Sym::Div | Sym::Zpow => has(base, sort, Class::Group) || has(base, sort, Class::Field),
+        Sym::Inv | Sym::Div | Sym::Zpow => has(base, sort, Class::Group)
+            || has(base, sort, Class::Field),
         Sym::Npow => has(base, sort, Class::Monoid),
         Sym::Abs => has(base, sort, Class::Ring) && has(base, sort, Class::IsStrictOrderedRing),
         Sym::Min | Sym::Max => has(base, sort, Class::LinearOrder),

@@ -4,6 +4,8 @@ use Rattle.std.proofs.Common.{ap}
 use Rattle.alg_terms.specs.declared.sorts.Sort.{Sort}
 use Rattle.alg_terms.specs.declared.symbols.Sym.{Sym}
 use Rattle.alg_terms.specs.declared.relations.Rel.{Rel}
+use Rattle.alg_terms.specs.declared.relations.Rel.TheVariants.{Eq}
+use Rattle.alg_terms.specs.declared.symbols.Sym.TheVariants.{Add, Mul}
 
 mutual
   -- a literal with its sort, a variable by its declaration with its sort, or a symbol with its sort and arguments
@@ -65,3 +67,13 @@ abbrev mutual
   pub trees_weight : Trees → ℕ
   trees_weight Nil = 0
   trees_weight (Cons t ts) = suc (tree_weight t + trees_weight ts)
+
+-- both sides of one sort are equal
+abbrev pub equal : Tree → Tree → Statement
+equal x y = record { rel = Eq; sort = sort_of_tree x; lhs = x; rhs = y }
+
+abbrev pub sum_tree : Sort → Tree → Tree → Tree
+sum_tree s x y = App Add s (Cons x (Cons y Nil))
+
+abbrev pub product_tree : Sort → Tree → Tree → Tree
+product_tree s x y = App Mul s (Cons x (Cons y Nil))

@@ -119,7 +119,9 @@ impl Sym {
         ensures { result ≡ serves self sort }
     {
         match self {
-            Sym::NatSub | Sym::Gcd | Sym::Lcm | Sym::Fact | Sym::Choose | Sym::Fib => sort.is(Sort::Nat),
+            Sym::NatSub | Sym::Gcd | Sym::Lcm | Sym::Fact | Sym::Choose | Sym::Fib => sort.is(
+                Sort::Nat,
+            ),
             Sym::IDiv | Sym::Mod => sort.is_integral(),
             _ => true,
         }
