@@ -2,7 +2,11 @@ pub mod Classes
 pub mod Declarations
 pub mod DeclarationCode
 pub mod Having
+pub mod HavingLaws
 pub mod Lawful
 pub mod Looking
 pub mod WellSorted
 pub mod Marks
+pub mod Patterns
+pub mod Laws
+pub mod Derivations

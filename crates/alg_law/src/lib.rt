@@ -4,9 +4,11 @@
 pub mod base;
 pub mod classes;
 pub mod declarations;
+pub mod laws;
 pub mod marks;
 
 pub use base::{Base, has};
 pub use classes::Class;
 pub use declarations::Declared;
+pub use laws::{Need, PatSort};
 pub use marks::{Mark, mark_for, mark_for_head, mark_for_sort, relates, worse_of};

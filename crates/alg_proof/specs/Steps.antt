@@ -17,7 +17,7 @@ use Rattle.alg_law.specs.declared.marks.Mark.{Mark}
 use Rattle.alg_law.specs.declared.marks.Mark.TheVariants.{Good, NoInstance, BadSort, BadName}
 use Rattle.alg_law.specs.Declarations.{Declaration}
 use Rattle.alg_law.specs.Having.{has_class}
-use Rattle.alg_law.specs.WellSorted.{mark_of, sort_mark, symbol_mark, function_of, sorts_of}
+use Rattle.alg_law.specs.WellSorted.{mark_of, sort_mark, head_mark, function_of, sorts_of}
 
 -- what a proof may rest on; the lemmas and the given statement will stand beside the declarations
 pub record Theory : Type 0 where
@@ -129,7 +129,7 @@ name_mark ds f = Good
 abbrev pub cong_of : List Declaration → Sym → List Statement → Concludes
 cong_of ds f ss =
     or_cause (value_sort ds f (sorts_of (left_sides ss))) cause.Sort (λ s.
-    only_good (symbol_mark ds f s (sorts_of (left_sides ss)))
+    only_good (head_mark ds f s (sorts_of (left_sides ss)))
     (only_if (all_equations ss) cause.Shape (Ok (equal (App f s (left_sides ss)) (App f s (right_sides ss))))))
 
 abbrev pub is_small : ℕ → Bool
