@@ -6,6 +6,7 @@ pub mod HavingLaws
 pub mod Lawful
 pub mod Looking
 pub mod WellSorted
+pub mod WellSortedLaws
 pub mod Marks
 pub mod Patterns
 pub mod Laws
