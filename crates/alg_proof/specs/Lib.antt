@@ -1,3 +1,4 @@
 pub mod Steps
 pub mod Valid
 pub mod Lines
+pub mod LiteralSums
