@@ -32,6 +32,7 @@ impl Sort {
         self.compare(other).is_eq()
     }
 
+    // its place in the order
     fn number(self) -> u64
         ensures { result ≡ sort_key self }
     {

@@ -1,14 +1,14 @@
-use Rattle.std.proofs.Common.{◌≡◌, ℕ, ◌<◌, ◌≤◌, ◌+◌, ◌-◌, List, length, All, get_or, ap, sym, subst, ◌∙◌, Some, None, nat_eq, arith, Option, is_some, if◌then◌else◌}
+use Rattle.std.proofs.Common.{◌≡◌, ◌<◌, ◌+◌, ◌-◌, List, length, ap, sym, subst, ◌∙◌, None, nat_eq, arith, Option, is_some, if◌then◌else◌}
 use Rattle.std.proofs.Math.ListN.{length-take}
 use Rattle.std.proofs.lemmas.List.Elements.{All-push, All-take}
 use Rattle.indexmap.specs.IndexMap.{get, index_map_len}
 use Rattle.alg_terms.specs.Tree.{Tree}
-use Rattle.alg_expr.specs.declared.arena.Copied.{Copied}
+use Rattle.alg_expr.specs.declared.importing.Copied.{Copied}
 use Rattle.alg_expr.specs.declared.ids.ExprId.{ExprId}
 use Rattle.alg_expr.specs.Ids.{tree_of, IsIn}
-use Rattle.alg_expr.specs.Arena.{Extends-then, Extends}
-use Rattle.alg_expr.specs.Copies.{Imports, Copies, AreCopies, IsCopy, next_of}
-use Rattle.alg_expr.proofs.Copying.{Imports-done, AreCopies-insert, AreCopies-extends, copies_fit, next_in, smaller-pop, smaller-insert, smaller-push}
+use Rattle.alg_expr.specs.Arena.{Extends-then, Extends, Imports}
+use Rattle.alg_expr.specs.Copies.{Copies, AreCopies, next_of}
+use Rattle.alg_expr.proofs.Copying.{Imports-done, AreCopies-insert, copies_fit, next_in, smaller-pop, smaller-insert}
 use Rattle.alg_expr.proofs.arena.Arena.copy_in.Goals as goal
 
 pub returns-then-len-eq0-clause-ok : goal.returns-then-len-eq0-clause-ok
