@@ -1,23 +1,23 @@
 -- What an insertion adds.
-use Rattle.std.proofs.Common.{◌≡◌, ℕ, ◌<◌, ◌≤◌, ◌+◌, suc, Bool, true, false, List, [], ◌∷◌, ◌++◌, length, get_or, take, map, position, Option, None, Some, All, refl, ap, sym, ◌∙◌, subst, arith, zero, add-one, length-append, true≢false, inl, inr, is_some, slice_get}
+use Rattle.std.proofs.Common.{◌≡◌, ℕ, ◌<◌, ◌+◌, suc, true, false, List, [], ◌∷◌, ◌++◌, length, get_or, take, position, Option, None, Some, refl, ap, sym, ◌∙◌, subst, arith, zero, add-one, length-append, true≢false, inl, inr, is_some, slice_get}
 use Rattle.std.proofs.Math.Seq.{get_or-append_seam, take-suc}
 use Rattle.std.proofs.lemmas.List.{map-append, get_or-map}
 use Rattle.std.proofs.lemmas.List.Quantifiers.{position-Some, all_pairs_push}
 use Rattle.std.proofs.lemmas.List.Folds.{list_any_at}
 use Rattle.std.proofs.lemmas.List.Elements.{All-push}
-use Rattle.std.proofs.lemmas.Option.{get_or_from_slice_get, slice_get_within, slice_get-get_or}
+use Rattle.std.proofs.lemmas.Option.{get_or_from_slice_get, slice_get_within}
 use Rattle.std.proofs.lemmas.Map.Made.{is_some-lookup}
-use Rattle.std.proofs.lemmas.Map.Entries.{length-keys_of, length-values_of}
+use Rattle.std.proofs.lemmas.Map.Entries.{length-keys_of}
 use Rattle.std.specs.Map.{keys_of, values_of, lookup}
 use Rattle.alg_terms.specs.declared.sorts.Sort.TheVariants.{Nat}
-use Rattle.alg_terms.specs.Tree.{Tree, Lit, Var, App, Trees, of_list, node_count, node_counts}
+use Rattle.alg_terms.specs.Tree.{Tree, Lit, of_list, node_count, node_counts}
 use Rattle.alg_expr.specs.declared.ids.ExprId.{ExprId}
 use Rattle.alg_expr.specs.declared.nodes.Node.{Node}
 use Rattle.alg_expr.specs.Ids.{tree_of, IsIn, trees_at}
 use Rattle.alg_expr.specs.Arena.{GrowsBy}
-use Rattle.alg_expr.specs.Sizes.{size_of, sizes_of}
-use Rattle.alg_expr.specs.Distinct.{AreDistinct, Differ}
-use Rattle.alg_expr.specs.Nodes.{tree_at, trees_of, IsBelow, AllBelow, IsSound, IsSmall}
+use Rattle.alg_expr.specs.Sizes.{size_of}
+use Rattle.alg_expr.specs.Distinct.{Differ}
+use Rattle.alg_expr.specs.Nodes.{tree_at, trees_of, IsBelow, IsSound, IsSmall}
 use Rattle.alg_expr.proofs.NodeLemmas.{trees_of-push, length-trees_of, get_or-trees_of, tree_of-node, parts_below, AllBelow-push, AllBelow-get_or, IsBelow-le}
 use Rattle.alg_expr.proofs.SameNode.{same_node, same_tree, same_node-from_tree}
 
@@ -66,7 +66,7 @@ pub grows-new : (es new : List (Node × ℕ)) (n : Node) (s i : ℕ) (ts : List 
 grows-new es new n s i ts same is at =
     let ks = keys_of es in
     let e : trees_of (keys_of new) ≡ ts ++ tree_at ts n ∷ [] =
-            ap (λ x. trees_of (keys_of x)) is ∙ ap trees_of (keys_of-push es n s) ∙ trees_of-push ks n ∙ ap (λ us. us ++ tree_at us n ∷ []) same in
+    ap (λ x. trees_of (keys_of x)) is ∙ ap trees_of (keys_of-push es n s) ∙ trees_of-push ks n ∙ ap (λ us. us ++ tree_at us n ∷ []) same in
     let l : i ≡ length ts = omega (arith, ap length same, length-trees_of ks, length-keys_of es) in
     record {
       grown = inr e;
@@ -101,9 +101,11 @@ pub entry_tree : (es : List (Node × ℕ)) (ts : List Tree) (e : ExprId) (n : No
 entry_tree es ts e n s same sound is_in at =
     let l : e.index < length es = slice_get_within es e.index (n, s) at in
     let k : get_or es e.index (n, s) ≡ (n, s) = get_or_from_slice_get es e.index (n, s) (n, s) at in
-    let m : n ≡ get_or (keys_of es) e.index n = sym (get_or-map (λ (x : Node × ℕ). x.0) es e.index (n, s) n l ∙ ap (λ (x : Node × ℕ). x.0) k) in
-    (tree_of-node (keys_of es) ts e n same sound.below is_in m, parts_below (keys_of es) ts e n same sound.below is_in m,
-     subst IsSmall (sym m) (sound.small e.index n (omega (arith, l, length-keys_of es))))
+    let m : n ≡ get_or (keys_of es) e.index n = sym (get_or-map (λ (x : Node × ℕ). x.0) es e.index (n, s) n l ∙ ap (λ (x : Node × ℕ). x.0) k) in (
+      tree_of-node (keys_of es) ts e n same sound.below is_in m,
+      parts_below (keys_of es) ts e n same sound.below is_in m,
+      subst IsSmall (sym m) (sound.small e.index n (omega (arith, l, length-keys_of es))),
+    )
 
 pub none-from_is_some : (o : Option ℕ) → false ≡ is_some o → o ≡ None
 none-from_is_some None e = refl

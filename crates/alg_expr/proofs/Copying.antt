@@ -1,20 +1,18 @@
 -- Copies of trees, a step at a time.
-use Rattle.std.proofs.Common.{◌≡◌, ℕ, zero, suc, ◌<◌, ◌≤◌, ◌+◌, ◌-◌, ◌*◌, Bool, true, false, if◌then◌else◌, List, [], ◌∷◌, ◌++◌, length, get_or, take, map, All, Contains, Option, Some, None, is_some, nat_eq, eqb, refl, ap, sym, ◌∙◌, subst, arith, add-one, append_assoc, append-nil, length-append, true≢false}
+use Rattle.std.proofs.Common.{◌≡◌, ℕ, suc, ◌<◌, ◌≤◌, ◌+◌, ◌-◌, ◌*◌, Bool, true, false, List, [], ◌∷◌, ◌++◌, length, get_or, take, All, Option, Some, None, is_some, nat_eq, eqb, refl, ap, sym, ◌∙◌, subst, arith, add-one, length-append, true≢false}
 use borrow.Author.Tests.{eqb-true}
 use Rattle.std.proofs.Math.Seq.{take-suc, get_or-append_seam}
 use Rattle.std.proofs.lemmas.List.{map-append}
-use Rattle.std.proofs.lemmas.List.Elements.{All-push, All-take}
 use Rattle.std.proofs.lemmas.Map.Steps.{length-le_from_distinct_below}
 use Rattle.std.proofs.lemmas.Map.Made.{is_some-lookup}
 use Rattle.std.proofs.lemmas.Map.Entries.{length-keys_of}
-use Rattle.std.specs.List.{IsDistinct}
 use Rattle.indexmap.specs.IndexMap.{IndexMap, get, keys, index_map_len, IsUnique, Updates}
 use Rattle.alg_terms.specs.declared.sorts.Sort.TheVariants.{Nat}
 use Rattle.alg_terms.specs.Tree.{Tree, Lit}
 use Rattle.alg_expr.specs.declared.ids.ExprId.{ExprId}
 use Rattle.alg_expr.specs.Ids.{tree_of, IsIn, trees_at}
-use Rattle.alg_expr.specs.Arena.{Extends, IsIn-extends, tree_of-extends}
-use Rattle.alg_expr.specs.Copies.{Imports, IsCopy, AreCopies, next_of, weight, steps_left}
+use Rattle.alg_expr.specs.Arena.{Extends, Imports, IsIn-extends, tree_of-extends}
+use Rattle.alg_expr.specs.Copies.{IsCopy, AreCopies, next_of, weight, steps_left}
 
 -- one more copy of a list of parts
 pub trees_at-next : (fs ts : List Tree) (cs args : List ExprId) (k : ℕ) (c d : ExprId) → trees_at ts cs ≡ trees_at fs (take k args) → k < length args
@@ -46,8 +44,8 @@ module _ {S : Type 0} where
   pub copies_fit : (fs ts : List Tree) (m : IndexMap ℕ ExprId S) → IsUnique nat_eq m → AreCopies fs ts m → index_map_len m ≤ length fs
   copies_fit fs ts m unique h =
       let bound : length (keys m) ≤ length fs =
-              length-le_from_distinct_below (keys m) (length fs) unique
-              (λ q any. by q (get nat_eq m q) refl (is_some-lookup (nat_eq q) m.entries ∙ any)) in
+      length-le_from_distinct_below (keys m) (length fs) unique
+      (λ q any. by q (get nat_eq m q) refl (is_some-lookup (nat_eq q) m.entries ∙ any)) in
       omega (arith, bound, length-keys_of m.entries)
     where
       by : (q : ℕ) (o : Option ExprId) → get nat_eq m q ≡ o → is_some (get nat_eq m q) ≡ true → q < length fs

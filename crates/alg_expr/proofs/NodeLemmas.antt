@@ -1,14 +1,8 @@
 -- The trees of a list of nodes: what a push adds, and what stands at an index.
-use Rattle.std.proofs.Common.{◌≡◌, ℕ, zero, suc, ◌+◌, ◌<◌, ◌≤◌, List, [], ◌∷◌, ◌++◌, length, get_or, map, refl, ap, sym, ◌∙◌, subst, arith, All, append_assoc, append-nil, length-append, add-one, add-zero, add-suc, zero-add}
-use Rattle.alg_expr.specs.contracts.nodes.NodePartialEq.TheImpl as NodeEq
+use Rattle.std.proofs.Common.{◌≡◌, ℕ, zero, suc, ◌+◌, ◌<◌, ◌≤◌, List, [], ◌∷◌, ◌++◌, length, get_or, refl, ap, sym, ◌∙◌, subst, arith, All, append_assoc, append-nil, length-append, add-zero, zero-add}
 use Rattle.std.proofs.Math.ListN.{get_or-append}
-use Rattle.std.proofs.Common.{Bool, true, false, if◌then◌else◌, slice_get, Some}
-use Rattle.std.specs.List.{list_any}
-use Rattle.indexmap.specs.IndexSet.{insert_key}
-use Rattle.std.proofs.lemmas.Option.{slice_get_within, get_or_from_slice_get}
 use Rattle.std.proofs.Math.Seq.{get_or-append_seam}
-use Rattle.std.proofs.lemmas.List.Elements.{All-head, All-tail, All-get_or}
-use Rattle.std.proofs.lemmas.Grind.{common_steps}
+use Rattle.std.proofs.lemmas.List.Elements.{All-head, All-tail}
 use Rattle.alg_terms.specs.declared.sorts.Sort.TheVariants.{Nat}
 use Rattle.alg_terms.specs.Tree.{Tree, Lit, App, of_list}
 use Rattle.alg_terms.specs.Order.{trees_cmp}
@@ -17,7 +11,7 @@ use Rattle.alg_expr.specs.declared.ids.ExprId.{ExprId}
 use Rattle.alg_expr.specs.declared.nodes.Node.{Node}
 use Rattle.alg_expr.specs.declared.nodes.Node.TheVariants as node
 use Rattle.alg_expr.specs.Ids.{tree_of, trees_at, IsIn}
-use Rattle.alg_expr.specs.Arena.{Extends, GrowsBy}
+use Rattle.alg_expr.specs.Arena.{Extends}
 use Rattle.alg_expr.specs.Nodes.{tree_at, trees_after, trees_of, IsBelow, AllBelow_from, AllBelow}
 
 pub trees_after-push : (ts : List Tree) (ns : List Node) (n : Node) → trees_after ts (ns ++ n ∷ []) ≡ trees_after ts ns ++ tree_at (trees_after ts ns) n ∷ []
@@ -111,7 +105,6 @@ pub trees_cmp-ends_right : (ts : List Tree) (xs ys : List ExprId) → 0 < length
 trees_cmp-ends_right ts [] ys l e = absurd (omega arith)
 trees_cmp-ends_right ts (x ∷ xs) [] l e = refl
 trees_cmp-ends_right ts (x ∷ xs) (y ∷ ys) l e = absurd (omega arith)
-
 
 pub IsBelow-le : (k m : ℕ) (n : Node) → k ≤ m → IsBelow k n → IsBelow m n
 IsBelow-le k m (node.Lit s v) l h = tt

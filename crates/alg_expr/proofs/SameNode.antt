@@ -1,10 +1,10 @@
 -- What the derived equality of nodes decides.
-use Rattle.std.proofs.Common.{rules, ◌≡◌, ℕ, ◌<◌, ◌+◌, suc, Bool, true, false, ◌&&◌, List, [], ◌∷◌, ◌++◌, length, get_or, take, map, position, None, Some, All, refl, ap, sym, ◌∙◌, subst, arith, true≢false}
+use Rattle.std.proofs.Common.{rules, ◌≡◌, Bool, true, ◌&&◌, List, [], ◌∷◌, length, refl, ap, sym, ◌∙◌}
 use Rattle.std.proofs.lemmas.Bool.{and_parts}
 use Rattle.std.specs.Cmp.Lexicographic.{pointwise}
 use Rattle.alg_terms.specs.declared.sorts.Sort.{Sort}
 use Rattle.alg_terms.specs.declared.symbols.Sym.{Sym}
-use Rattle.alg_terms.specs.Tree.{Tree, Lit, Var, App, Trees, of_list, to_list, to_list-of_list}
+use Rattle.alg_terms.specs.Tree.{Tree, of_list, to_list, to_list-of_list}
 use Rattle.alg_terms.specs.contracts.sorts.SortPartialEq.TheImpl as sort_eq
 use Rattle.alg_terms.specs.contracts.symbols.SymPartialEq.TheImpl as sym_eq
 use Rattle.alg_expr.specs.contracts.ids.ExprIdPartialEq.TheImpl as id_eq
@@ -13,7 +13,7 @@ use Rattle.alg_expr.specs.contracts.nodes.NodeEq.TheImpl.Laws.{laws-law}
 use Rattle.alg_expr.specs.declared.ids.ExprId.{ExprId}
 use Rattle.alg_expr.specs.declared.nodes.Node.{Node}
 use Rattle.alg_expr.specs.declared.nodes.Node.TheVariants as node
-use Rattle.alg_expr.specs.Ids.{tree_of, IsIn, trees_at}
+use Rattle.alg_expr.specs.Ids.{trees_at}
 use Rattle.alg_expr.specs.Distinct.{AreDistinct, same_ids-from_trees}
 use Rattle.alg_expr.specs.Nodes.{tree_at, IsBelow}
 
@@ -41,7 +41,7 @@ same_ids (x ∷ xs) (y ∷ ys) e =
 
 -- equal nodes stand for one tree
 pub same_tree : (ts : List Tree) (n k : Node) → same_node n k ≡ true → tree_at ts n ≡ tree_at ts k
-same_tree ts (node.Lit s v) (node.Lit t w) e = 
+same_tree ts (node.Lit s v) (node.Lit t w) e =
     let h = and_parts ((sort_eq.ghosts).eq s t) _ e in
     let p : s ≡ t = same_sort s t h.0 in
     let q : v ≡ w = search rules in

@@ -1,5 +1,5 @@
 -- An arena that is cut back to what it was.
-use Rattle.std.proofs.Common.{◌≡◌, ℕ, zero, suc, ◌<◌, ◌≤◌, ◌+◌, List, [], ◌∷◌, ◌++◌, length, get_or, take, drop, map, refl, ap, sym, ◌∙◌, subst, arith, length-append, All}
+use Rattle.std.proofs.Common.{◌≡◌, ℕ, suc, ◌<◌, ◌≤◌, List, [], ◌∷◌, ◌++◌, length, take, drop, map, refl, ap, sym, ◌∙◌, subst, arith, length-append, All}
 use Rattle.std.proofs.Math.Seq.{take-append_seam}
 use Rattle.std.proofs.Math.ListN.{get_or-append}
 use Rattle.std.proofs.lemmas.List.{map-append, take-append-drop, length-take, length-map}
@@ -54,14 +54,20 @@ IsSound-prefix a b h =
       sizes = first_parts (values_of a) (map size_of ts) (values_of b) (map size_of x.0) sizes (omega (arith, length-values_of a, length-map ts size_of, length-trees_of (keys_of a), length-keys_of a));
     }
 
-pub cut_back : (es : List (Node × ℕ)) (old new : List Tree) (n : ℕ) → trees_of (keys_of es) ≡ new → Extends old new → n ≡ length old → IsSound es
-    → IsSound (take n es) × (trees_of (keys_of (take n es)) ≡ old)
-cut_back es old new n same x at h =
+-- the first entries are sound, and their trees are the first trees
+pub cut_back : (es : List (Node × ℕ)) (ts : List Tree) (n : ℕ) → trees_of (keys_of es) ≡ ts → n ≤ length ts → IsSound es
+    → IsSound (take n es) × (trees_of (keys_of (take n es)) ≡ take n ts)
+cut_back es ts n same within h =
     let parts : take n es ++ drop n es ≡ es = take-append-drop n es in
     let sound : IsSound (take n es) = IsSound-prefix (take n es) (drop n es) (subst IsSound (sym parts) h) in
+    let first = trees_of (keys_of (take n es)) in
     let y = Extends-append (keys_of (take n es)) (keys_of (drop n es)) in
-    let both : trees_of (keys_of (take n es)) ++ y.0 ≡ old ++ x.0 =
-            sym y.1 ∙ ap trees_of (sym (keys_of-append (take n es) (drop n es))) ∙ ap (λ z. trees_of (keys_of z)) parts ∙ same ∙ x.1 in
-    let l : length (trees_of (keys_of (take n es))) ≡ length old =
-            omega (arith, length-trees_of (keys_of (take n es)), length-keys_of (take n es), length-take n es, at, ap length same, ap length x.1, length-append old x.0, length-trees_of (keys_of es), length-keys_of es) in
-    (sound, first_parts (trees_of (keys_of (take n es))) old y.0 x.0 both l)
+    let both : first ++ y.0 ≡ ts =
+    sym y.1 ∙ ap trees_of (sym (keys_of-append (take n es) (drop n es))) ∙ ap (λ z. trees_of (keys_of z)) parts ∙ same in
+    let l : length first ≡ n =
+    omega (arith, length-trees_of (keys_of (take n es)), length-keys_of (take n es), length-take n es, within, ap length same, length-trees_of (keys_of es), length-keys_of es) in
+    (sound, sym (take-append_seam first y.0) ∙ ap (take (length first)) both ∙ ap (λ k. take k ts) l)
+
+-- an arena that only grew is cut back to what it was
+pub take-extends : (old new : List Tree) (n : ℕ) → Extends old new → n ≡ length old → take n new ≡ old
+take-extends old new n x at = ap (λ k. take k new) at ∙ ap (take (length old)) x.1 ∙ take-append_seam old x.0

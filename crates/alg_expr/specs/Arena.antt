@@ -1,5 +1,5 @@
 -- What the calls of the arena answer.
-use Rattle.std.specs.Prelude.{◌≡◌, ℕ, ◌<◌, List, [], ◌∷◌, ◌++◌, length, All, ◌⊎◌, ⊤, ◌^◌}
+use Rattle.std.specs.Prelude.{◌≡◌, ◌<◌, List, [], ◌∷◌, ◌++◌, length, All, ◌⊎◌, ⊤, ◌^◌}
 use Rattle.alg_terms.specs.Tree.{Tree, Lit, Var, App, of_list}
 use Rattle.alg_expr.specs.declared.ids.ExprId.{ExprId}
 use Rattle.alg_expr.specs.declared.ids.View.{View}
@@ -18,6 +18,12 @@ Extends old new = (more : List Tree) × (new ≡ old ++ more)
 -- at most this tree was added, and this id stands for it
 pub record GrowsBy (old new : List Tree) (e : ExprId) (t : Tree) : Type 0 where
   pub grown : (new ≡ old) ⊎ (new ≡ old ++ t ∷ [])
+  pub here : IsIn new e
+  pub tree : tree_of new e ≡ t
+
+-- the old trees keep their ids, and this id stands for this tree
+pub record Imports (old new : List Tree) (e : ExprId) (t : Tree) : Type 0 where
+  pub keeps : Extends old new
   pub here : IsIn new e
   pub tree : tree_of new e ≡ t
 
@@ -41,7 +47,7 @@ pub Extends-then : (a b c : List Tree) → Extends a b → Extends b c → Exten
 Extends-then a b c p q = (p.0 ++ q.0, q.1 ∙ ap (λ x. x ++ q.0) p.1 ∙ append_assoc a p.0 q.0)
 
 pub GrowsBy-Extends : (old new : List Tree) (e : ExprId) (t : Tree) → GrowsBy old new e t → Extends old new
-GrowsBy-Extends old new e t h = elim h.grown [ | inl p ↦ ([], p ∙ sym (append-nil old)) | inr p ↦ (t ∷ [], p) ]
+GrowsBy-Extends old new e t h = elim h.grown [ inl p ↦ ([], p ∙ sym (append-nil old)) | inr p ↦ (t ∷ [], p) ]
 
 -- ids that are there stay there, with their trees
 pub IsIn-extends : (old new : List Tree) (e : ExprId) → Extends old new → IsIn old e → IsIn new e

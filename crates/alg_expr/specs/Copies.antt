@@ -1,21 +1,15 @@
--- Copies of trees in another arena.
-use Rattle.std.specs.Prelude.{◌≡◌, ℕ, ◌<◌, ◌+◌, ◌-◌, ◌*◌, List, length, get_or, All, Contains, Option, Some, None, nat_eq, if◌then◌else◌, is_some, Bool}
+-- The walk that copies a tree into another arena.
+use Rattle.std.specs.Prelude.{◌≡◌, ℕ, ◌<◌, ◌+◌, ◌-◌, ◌*◌, List, length, get_or, All, Contains, Some, None, nat_eq, if◌then◌else◌, is_some, Bool}
 use Rattle.indexmap.specs.IndexMap.{IndexMap, get, index_map_len}
 use Rattle.alg_terms.specs.declared.sorts.Sort.TheVariants.{Nat}
 use Rattle.alg_terms.specs.Tree.{Tree, Lit}
 use Rattle.alg_expr.specs.declared.ids.ExprId.{ExprId}
-use Rattle.alg_expr.specs.declared.arena.Copied.{Copied}
-use Rattle.alg_expr.specs.declared.arena.Copied.TheVariants as copied
-use Rattle.alg_expr.specs.declared.arena.Parts.{Parts}
-use Rattle.alg_expr.specs.declared.arena.Parts.TheVariants as parts
+use Rattle.alg_expr.specs.declared.importing.Copied.{Copied}
+use Rattle.alg_expr.specs.declared.importing.Copied.TheVariants as copied
+use Rattle.alg_expr.specs.declared.importing.Parts.{Parts}
+use Rattle.alg_expr.specs.declared.importing.Parts.TheVariants as parts
 use Rattle.alg_expr.specs.Ids.{tree_of, IsIn, trees_at}
-use Rattle.alg_expr.specs.Arena.{Extends}
-
--- the old trees keep their ids, and this id stands for this tree
-pub record Imports (old new : List Tree) (e : ExprId) (t : Tree) : Type 0 where
-  pub keeps : Extends old new
-  pub here : IsIn new e
-  pub tree : tree_of new e ≡ t
+use Rattle.alg_expr.specs.Arena.{Imports}
 
 -- the id e stands in ts for the tree that has the number k in fs
 pub record IsCopy (fs ts : List Tree) (k : ℕ) (e : ExprId) : Type 0 where
@@ -24,13 +18,16 @@ pub record IsCopy (fs ts : List Tree) (k : ℕ) (e : ExprId) : Type 0 where
   pub tree : tree_of ts e ≡ get_or fs k (Lit Nat 0)
 
 module _ {S : Type 0} where
+  -- each entry of the table is a copy
   abbrev pub AreCopies : List Tree → List Tree → IndexMap ℕ ExprId S → Type 0
   AreCopies fs ts m = (k : ℕ) (e : ExprId) → get nat_eq m k ≡ Some e → IsCopy fs ts k e
 
+  -- a try to copy one node: its copy, or a part that comes before it and has none
   abbrev pub Copies : List Tree → List Tree → List Tree → IndexMap ℕ ExprId S → ExprId → Copied → Type 0
   Copies fs old new m id (copied.Made e) = Imports old new e (tree_of fs id)
   Copies fs old new m id (copied.Missing p) = (new ≡ old) × (p.index < id.index) × (get nat_eq m p.index ≡ None)
 
+  -- the copies of all parts, or a part that has none
   abbrev pub HasParts : List Tree → List Tree → IndexMap ℕ ExprId S → List ExprId → Parts → Type 0
   HasParts fs ts m args (parts.All copies) = (trees_at ts copies.items ≡ trees_at fs args) × All (IsIn ts) copies.items
   HasParts fs ts m args (parts.Missing p) = Contains args p × (get nat_eq m p.index ≡ None)

@@ -1,10 +1,10 @@
 -- Lists of trees in which no tree stands twice.
-use Rattle.std.specs.Prelude.{◌≡◌, ℕ, ◌<◌, List, [], ◌∷◌, ◌++◌, length, get_or, refl, All}
+use Rattle.std.specs.Prelude.{◌≡◌, List, [], ◌∷◌, refl, All}
 use Rattle.std.specs.List.{AllPairs}
 use Rattle.std.specs.Prelude.{◌↔◌}
 use Rattle.std.specs.declared.cmp.Ordering.TheVariants.{Equal}
 use Rattle.alg_terms.specs.Order.{tree_cmp, tree_cmp-equal, tree_cmp-self}
-use Rattle.std.proofs.Common.{ap, sym, subst, arith, inl, inr}
+use Rattle.std.proofs.Common.{sym, subst, arith, inl, inr}
 use Rattle.std.proofs.lemmas.Bool.{cases_lt}
 use Rattle.std.proofs.lemmas.List.Elements.{All-head, All-tail}
 use Rattle.alg_terms.specs.declared.sorts.Sort.TheVariants.{Nat}

@@ -1,7 +1,7 @@
 -- Ids and the trees that they stand for.
-use Rattle.std.specs.Prelude.{◌≡◌, ℕ, ◌<◌, List, [], ◌∷◌, length, get_or, map}
+use Rattle.std.specs.Prelude.{◌<◌, List, length, get_or, map}
 use Rattle.alg_terms.specs.declared.sorts.Sort.TheVariants.{Nat}
-use Rattle.alg_terms.specs.Tree.{Tree, Lit, Trees, of_list, Statement}
+use Rattle.alg_terms.specs.Tree.{Tree, Lit, Statement}
 use Rattle.alg_expr.specs.declared.ids.ExprId.{ExprId}
 use Rattle.alg_expr.specs.declared.ids.Stmt.{Stmt}
 

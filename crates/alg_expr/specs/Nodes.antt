@@ -1,13 +1,12 @@
 -- Nodes, and the trees that a list of them stands for.
-use Rattle.std.specs.Prelude.{◌≡◌, ℕ, suc, ◌<◌, List, [], ◌∷◌, ◌++◌, length, All, ⊤, map, ◌^◌}
+use Rattle.std.specs.Prelude.{◌≡◌, ℕ, suc, ◌<◌, List, [], ◌∷◌, ◌++◌, All, ⊤, map, ◌^◌}
 use Rattle.alg_terms.specs.Tree.{Tree, Lit, Var, App, of_list}
-use Rattle.alg_expr.specs.declared.ids.ExprId.{ExprId}
 use Rattle.alg_expr.specs.declared.nodes.Node.{Node}
 use Rattle.alg_expr.specs.declared.nodes.Node.TheVariants as node
 use Rattle.std.specs.Map.{keys_of, values_of}
 use Rattle.alg_expr.specs.Sizes.{size_of}
 use Rattle.alg_expr.specs.Distinct.{AreDistinct}
-use Rattle.alg_expr.specs.Ids.{tree_of, IsIn, trees_at}
+use Rattle.alg_expr.specs.Ids.{trees_at}
 
 -- the tree of a node over the trees before it
 abbrev pub tree_at : List Tree → Node → Tree

@@ -1,5 +1,5 @@
 -- The number of nodes of a tree written out, up to 2^64 - 1.
-use Rattle.std.specs.Prelude.{ℕ, ◌+◌, ◌-◌, ◌^◌, min}
+use Rattle.std.specs.Prelude.{ℕ, ◌-◌, ◌^◌, min}
 use Rattle.alg_terms.specs.Tree.{Tree, Trees, node_count, node_counts}
 
 abbrev pub saturated : ℕ → ℕ

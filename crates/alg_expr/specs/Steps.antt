@@ -1,12 +1,12 @@
 -- One look at two trees.
-use Rattle.std.specs.Prelude.{◌≡◌, ℕ, ◌<◌, List, Contains}
-use Rattle.std.specs.declared.cmp.Ordering.TheVariants.{Less, Equal, Greater}
+use Rattle.std.specs.Prelude.{◌≡◌, ◌<◌, List, Contains}
+use Rattle.std.specs.declared.cmp.Ordering.TheVariants.{Equal}
 use Rattle.alg_terms.specs.Tree.{Tree, of_list}
 use Rattle.alg_terms.specs.Order.{tree_cmp, trees_cmp}
 use Rattle.alg_expr.specs.declared.ids.ExprId.{ExprId}
-use Rattle.alg_expr.specs.declared.arena.Step.{Step}
-use Rattle.alg_expr.specs.declared.arena.Step.TheVariants as step
-use Rattle.alg_expr.specs.Ids.{tree_of, IsIn, trees_at}
+use Rattle.alg_expr.specs.declared.comparing.Step.{Step}
+use Rattle.alg_expr.specs.declared.comparing.Step.TheVariants as step
+use Rattle.alg_expr.specs.Ids.{tree_of, trees_at}
 
 -- x and y are parts that come before a and b and have their order
 pub record HaveOrder (ts : List Tree) (a b x y : ExprId) : Type 0 where

@@ -30,9 +30,19 @@ pub struct Stmt {
 #[derive(Clone, Copy, Debug)]
 pub enum View<'a> {
     /// A number literal, at most 2^127 - 1.
-    Lit { sort: Sort, value: u128 },
+    Lit {
+        sort: Sort,
+        value: u128,
+    },
     /// A declared variable, by the number of its declaration from 0.
-    Var { decl: u32, sort: Sort },
+    Var {
+        decl: u32,
+        sort: Sort,
+    },
     /// A symbol with its arguments, and the sort of its value.
-    App { sym: Sym, sort: Sort, args: &'a [ExprId] },
+    App {
+        sym: Sym,
+        sort: Sort,
+        args: &'a [ExprId],
+    },
 }

@@ -4,7 +4,17 @@ use alg_terms::{Sort, Sym};
 /// One level of a tree, as an arena keeps it.
 #[derive(Debug, PartialEq, Eq, Hash, Drop)]
 pub(crate) enum Node {
-    Lit { sort: Sort, value: u128 },
-    Var { decl: u32, sort: Sort },
-    App { sym: Sym, sort: Sort, args: Vec<ExprId> },
+    Lit {
+        sort: Sort,
+        value: u128,
+    },
+    Var {
+        decl: u32,
+        sort: Sort,
+    },
+    App {
+        sym: Sym,
+        sort: Sort,
+        args: Vec<ExprId>,
+    },
 }

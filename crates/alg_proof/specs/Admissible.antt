@@ -150,7 +150,7 @@ module _ (ds : List Declaration) (given : Option Statement) where
       let q : equal (App f k.0 (left_sides ss)) (App f k.0 (right_sides ss)) ≡ s = cc in
       let left : IsWellSorted ds (App f k.0 (left_sides ss)) = worse-good (head_mark ds f k.0 (sorts_of (left_sides ss))) _ m.0 (lefts_good ss h) in
       let right : IsWellSorted ds (App f k.0 (right_sides ss)) =
-              worse-good (head_mark ds f k.0 (sorts_of (right_sides ss))) _ (ap (head_mark ds f k.0) (sides_sorts ss h) ∙ m.0) (rights_good ss h) in
+      worse-good (head_mark ds f k.0 (sorts_of (right_sides ss))) _ (ap (head_mark ds f k.0) (sides_sorts ss h) ∙ m.0) (rights_good ss h) in
       subst IsFine q
       (record {
         derivable = congruent f k.0 (left_sides ss) (right_sides ss) left right (sides_count ss) (sides_derivable ss h l.0);

@@ -72,12 +72,12 @@ module _ (ds : List Declaration) (given : Option Statement) (s : Sort) (known : 
   literal_sum m (suc n) =
       rw (add-suc m n)
       (transitive _ (sum_tree s (Lit s m) (sum_tree s (Lit s n) (Lit s 1))) _
-       (sum_congruent (Lit s m) (Lit s (suc n)) (Lit s m) (sum_tree s (Lit s n) (Lit s 1)) refl refl refl refl (good m) (good (suc n)) (good m) (sum-of_literals n 1) (reflexive (Lit s m) (good m)) (next n))
-       (transitive _ (sum_tree s (sum_tree s (Lit s m) (Lit s n)) (Lit s 1)) _
-        (symmetric _ _ refl (plus_assoc m n 1))
-        (transitive _ (sum_tree s (Lit s (m + n)) (Lit s 1)) _
-         (sum_congruent (sum_tree s (Lit s m) (Lit s n)) (Lit s 1) (Lit s (m + n)) (Lit s 1) refl refl refl refl (sum-of_literals m n) (good 1) (good (m + n)) (good 1) (literal_sum m n) (reflexive (Lit s 1) (good 1)))
-         (symmetric _ _ refl (next (m + n))))))
+      (sum_congruent (Lit s m) (Lit s (suc n)) (Lit s m) (sum_tree s (Lit s n) (Lit s 1)) refl refl refl refl (good m) (good (suc n)) (good m) (sum-of_literals n 1) (reflexive (Lit s m) (good m)) (next n))
+      (transitive _ (sum_tree s (sum_tree s (Lit s m) (Lit s n)) (Lit s 1)) _
+      (symmetric _ _ refl (plus_assoc m n 1))
+      (transitive _ (sum_tree s (Lit s (m + n)) (Lit s 1)) _
+      (sum_congruent (sum_tree s (Lit s m) (Lit s n)) (Lit s 1) (Lit s (m + n)) (Lit s 1) refl refl refl refl (sum-of_literals m n) (good 1) (good (m + n)) (good 1) (literal_sum m n) (reflexive (Lit s 1) (good 1)))
+      (symmetric _ _ refl (next (m + n))))))
 
   -- m * (n + 1) = m * n + m
   pub literal_product : (m n : ℕ) → Has (product_tree s (Lit s m) (Lit s n)) (Lit s (m * n))
@@ -85,9 +85,9 @@ module _ (ds : List Declaration) (given : Option Statement) (s : Sort) (known : 
   literal_product m (suc n) =
       rw (mul-suc m n)
       (transitive _ (product_tree s (Lit s m) (sum_tree s (Lit s n) (Lit s 1))) _
-       (product_congruent (Lit s m) (Lit s (suc n)) (Lit s m) (sum_tree s (Lit s n) (Lit s 1)) refl refl refl refl (good m) (good (suc n)) (good m) (sum-of_literals n 1) (reflexive (Lit s m) (good m)) (next n))
-       (transitive _ (sum_tree s (product_tree s (Lit s m) (Lit s n)) (product_tree s (Lit s m) (Lit s 1))) _
-        (distrib m n 1)
-        (transitive _ (sum_tree s (Lit s (m * n)) (Lit s m)) _
-         (sum_congruent (product_tree s (Lit s m) (Lit s n)) (product_tree s (Lit s m) (Lit s 1)) (Lit s (m * n)) (Lit s m) refl refl refl refl (product-of_literals m n) (product-of_literals m 1) (good (m * n)) (good m) (literal_product m n) (times_one m))
-         (literal_sum (m * n) m))))
+      (product_congruent (Lit s m) (Lit s (suc n)) (Lit s m) (sum_tree s (Lit s n) (Lit s 1)) refl refl refl refl (good m) (good (suc n)) (good m) (sum-of_literals n 1) (reflexive (Lit s m) (good m)) (next n))
+      (transitive _ (sum_tree s (product_tree s (Lit s m) (Lit s n)) (product_tree s (Lit s m) (Lit s 1))) _
+      (distrib m n 1)
+      (transitive _ (sum_tree s (Lit s (m * n)) (Lit s m)) _
+      (sum_congruent (product_tree s (Lit s m) (Lit s n)) (product_tree s (Lit s m) (Lit s 1)) (Lit s (m * n)) (Lit s m) refl refl refl refl (product-of_literals m n) (product-of_literals m 1) (good (m * n)) (good m) (literal_product m n) (times_one m))
+      (literal_sum (m * n) m))))

@@ -1,4 +1,4 @@
--- Trees as values of a model: each is told from the others by a tree of numbers.
+-- Trees and statements as values of a model: each has a code, a tree of numbers, from which it can be read back.
 use Rattle.std.specs.Prelude.{◌≡◌, ℕ, zero, suc, refl}
 use Rattle.std.proofs.Common.{ap, ap₂, sym, ◌∙◌}
 use base.Stored.{Gv, gnil, gnum, gcons}
@@ -9,6 +9,7 @@ use Rattle.alg_terms.specs.declared.symbols.Sym.{Sym}
 use Rattle.alg_terms.specs.Keys.{sort_key, sort_at, sym_key, sym_at, sort_at-sort_key, sym_at-sym_key, rel_key, rel_at, rel_at-rel_key}
 use Rattle.alg_terms.specs.Tree.{Tree, Lit, Var, App, Trees, Nil, Cons, Statement}
 
+-- the code of a tree: a literal begins with 0, a variable with 1, a compound with its symbol and sort
 abbrev mutual
   pub tree_store : Tree → Gv
   tree_store (Lit s n) = gcons (gnum 0) (gcons (gnum (sort_key s)) (gnum n))
@@ -19,11 +20,13 @@ abbrev mutual
   trees_store Nil = gnil
   trees_store (Cons x xs) = gcons (tree_store x) (trees_store xs)
 
+-- the number that a code is, or 0
 abbrev pub number : Gv → ℕ
 number gnil = 0
 number (gnum n) = n
 number (gcons a b) = 0
 
+-- the two parts of a code, or nothing
 abbrev pub first : Gv → Gv
 first gnil = gnil
 first (gnum n) = gnil
@@ -34,6 +37,7 @@ second gnil = gnil
 second (gnum n) = gnil
 second (gcons a b) = b
 
+-- a literal or a variable, by its first number and the rest
 abbrev pub leaf : ℕ → Gv → Tree
 leaf zero g = Lit (sort_at (number (first g))) (number (second g))
 leaf (suc n) g = Var (number (first g)) (sort_at (number (second g)))
@@ -44,6 +48,7 @@ tree_from gnil b xs = Lit Nat 0
 tree_from (gnum n) b xs = leaf n b
 tree_from (gcons f s) b xs = App (sym_at (number f)) (sort_at (number s)) xs
 
+-- the tree that has a code
 abbrev mutual
   pub tree_back : Gv → Tree
   tree_back gnil = Lit Nat 0
@@ -55,6 +60,7 @@ abbrev mutual
   trees_back (gnum n) = Nil
   trees_back (gcons a b) = Cons (tree_back a) (trees_back b)
 
+-- reading a code gives the tree back
 mutual
   pub tree_back-tree_store : (a : Tree) → tree_back (tree_store a) ≡ a
   tree_back-tree_store (Lit s n) = ap (λ t. Lit t n) (sort_at-sort_key s)
@@ -65,10 +71,11 @@ mutual
   trees_back-trees_store Nil = refl
   trees_back-trees_store (Cons x xs) = λ i. Cons (tree_back-tree_store x i) (trees_back-trees_store xs i)
 
+-- trees are told apart by their codes
 abbrev pub tree_code : Coded Tree
 tree_code = record { code = tree_store; inj = λ x y e. sym (tree_back-tree_store x) ∙ ap tree_back e ∙ tree_back-tree_store y }
 
--- a statement is stored as the numbers of its relation and sort, and its two sides
+-- a statement is coded as the numbers of its relation and sort, and its two sides
 abbrev pub statement_code : Coded Statement
 statement_code =
     code_by (ℕ × (ℕ × (Tree × Tree))) (coded× coded_ℕ (coded× coded_ℕ (coded× tree_code tree_code)))

@@ -1,4 +1,4 @@
--- The numbers of sorts, symbols and relations.
+-- The numbers of sorts, symbols and relations, by which each is ordered and found again.
 use Rattle.std.specs.Prelude.{◌≡◌, ℕ, zero, suc, ◌+◌, ◌-◌, refl, cond, nat_lt, false, List, [], ◌∷◌, get_or}
 use Rattle.std.proofs.Common.{ap, sym, ◌∙◌, arith}
 use Rattle.std.proofs.lemmas.Bool.Decides.{nat_tests}
@@ -16,6 +16,7 @@ sort_key Int = 1
 sort_key Rat = 2
 sort_key (Decl k) = suc (suc (suc k))
 
+-- the sort at a place
 abbrev pub sort_at : ℕ → Sort
 sort_at zero = Nat
 sort_at (suc zero) = Int
@@ -56,10 +57,11 @@ sym_key Choose = 20
 sym_key Fib = 21
 sym_key (Apply k) = k + 22
 
--- the symbols in their order, with a first one that has no number
+-- the symbols in their order; the first stands for the number 0, which no symbol has
 abbrev pub syms : List Sym
 syms = Add ∷ Add ∷ Mul ∷ Neg ∷ Sub ∷ Inv ∷ Div ∷ Npow ∷ Zpow ∷ Nsmul ∷ Zsmul ∷ Abs ∷ Min ∷ Max ∷ NatSub ∷ IDiv ∷ Mod ∷ Gcd ∷ Lcm ∷ Fact ∷ Choose ∷ Fib ∷ []
 
+-- the symbol at a place
 abbrev pub sym_at : ℕ → Sym
 sym_at n = cond (nat_lt n 22) (get_or syms n Add) (Apply (n - 22))
 
@@ -93,6 +95,7 @@ sym_at-sym_key (Apply k) =
 pub sym_key-inj : (f g : Sym) → sym_key f ≡ sym_key g → f ≡ g
 sym_key-inj f g e = sym (sym_at-sym_key f) ∙ ap sym_at e ∙ sym_at-sym_key g
 
+-- the place of a relation in their order
 abbrev pub rel_key : Rel → ℕ
 rel_key Eq = 0
 rel_key Ne = 1
@@ -100,6 +103,7 @@ rel_key Lt = 2
 rel_key Le = 3
 rel_key Dvd = 4
 
+-- the relation at a place
 abbrev pub rel_at : ℕ → Rel
 rel_at n = get_or (Eq ∷ Ne ∷ Lt ∷ Le ∷ Dvd ∷ []) n Eq
 

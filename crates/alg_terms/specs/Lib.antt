@@ -1,5 +1,5 @@
-pub mod Keys
-pub mod Tree
-pub mod Order
 pub mod Code
+pub mod Keys
+pub mod Order
 pub mod Symbols
+pub mod Tree

@@ -1,5 +1,5 @@
--- The order of trees.
-use Rattle.std.specs.Prelude.{◌≡◌, ℕ, ◌<◌, refl, ◌↔◌, Bool, true, nat_eq}
+-- The order of sorts, symbols and trees, and equality as a test.
+use Rattle.std.specs.Prelude.{◌≡◌, ℕ, ◌<◌, refl, Bool, true, nat_eq}
 use Rattle.std.proofs.Common.{ap, sym, ◌∙◌, subst, arith}
 use Rattle.std.proofs.lemmas.Bool.Decides.{nat_tests}
 use Rattle.std.specs.Ordering.{nat_cmp, ordering_then, MatchOrdering, is_eq}
@@ -12,13 +12,16 @@ use Rattle.alg_terms.specs.declared.relations.Rel.{Rel}
 use Rattle.alg_terms.specs.Keys.{sort_key, sym_key, rel_key, rel_at, rel_at-rel_key, sort_key-inj, sym_key-inj}
 use Rattle.alg_terms.specs.Tree.{Tree, Lit, Var, App, Trees, Nil, Cons}
 
+-- ℕ, ℤ, ℚ, then the declared sorts by number
 abbrev pub sort_cmp : Sort → Sort → Ordering
 sort_cmp s t = nat_cmp (sort_key s) (sort_key t)
 
+-- the built-in symbols in the order of their table, then the declared ones by number
 abbrev pub sym_cmp : Sym → Sym → Ordering
 sym_cmp f g = nat_cmp (sym_key f) (sym_key g)
 
--- literals before variables before compounds; each by its number, and its sort last
+-- literals before variables before compounds; literals and variables by number, compounds by symbol and then by
+-- arguments, where a list that ends first comes first; all by sort last
 abbrev mutual
   pub tree_cmp : Tree → Tree → Ordering
   tree_cmp (Lit s m) (Lit t n) = ordering_then (nat_cmp m n) (sort_cmp s t)
@@ -46,19 +49,22 @@ then-equal Greater p e = cc
 nat_cmp-equal : (m n : ℕ) → nat_cmp m n ≡ Equal → m ≡ n
 nat_cmp-equal m n e = subst (λ o. MatchOrdering o (m < n) (m ≡ n) (n < m)) e (ranked m n (nat_cmp m n) refl)
 
+-- trees in no order are one tree
 mutual
   pub tree_cmp-equal : (a b : Tree) → tree_cmp a b ≡ Equal → a ≡ b
   tree_cmp-equal (Lit s m) (Lit t n) e =
       let h = then-equal (nat_cmp m n) (sort_cmp s t) e in
       let p : m ≡ n = nat_cmp-equal m n h.0 in
-      let q : s ≡ t = sort_key-inj s t (nat_cmp-equal (sort_key s) (sort_key t) h.1) in cc
+      let q : s ≡ t = sort_key-inj s t (nat_cmp-equal (sort_key s) (sort_key t) h.1) in
+      cc
   tree_cmp-equal (Lit s m) (Var _ _) e = cc
   tree_cmp-equal (Lit s m) (App _ _ _) e = cc
   tree_cmp-equal (Var d s) (Lit _ _) e = cc
   tree_cmp-equal (Var d s) (Var f t) e =
       let h = then-equal (nat_cmp d f) (sort_cmp s t) e in
       let p : d ≡ f = nat_cmp-equal d f h.0 in
-      let q : s ≡ t = sort_key-inj s t (nat_cmp-equal (sort_key s) (sort_key t) h.1) in cc
+      let q : s ≡ t = sort_key-inj s t (nat_cmp-equal (sort_key s) (sort_key t) h.1) in
+      cc
   tree_cmp-equal (Var d s) (App _ _ _) e = cc
   tree_cmp-equal (App f s xs) (Lit _ _) e = cc
   tree_cmp-equal (App f s xs) (Var _ _) e = cc
@@ -67,7 +73,8 @@ mutual
       let k = then-equal (trees_cmp xs ys) (sort_cmp s t) h.1 in
       let p : f ≡ g = sym_key-inj f g (nat_cmp-equal (sym_key f) (sym_key g) h.0) in
       let r : xs ≡ ys = trees_cmp-equal xs ys k.0 in
-      let q : s ≡ t = sort_key-inj s t (nat_cmp-equal (sort_key s) (sort_key t) k.1) in cc
+      let q : s ≡ t = sort_key-inj s t (nat_cmp-equal (sort_key s) (sort_key t) k.1) in
+      cc
 
   pub trees_cmp-equal : (xs ys : Trees) → trees_cmp xs ys ≡ Equal → xs ≡ ys
   trees_cmp-equal Nil Nil e = refl
@@ -76,7 +83,8 @@ mutual
   trees_cmp-equal (Cons x xs) (Cons y ys) e =
       let h = then-equal (tree_cmp x y) (trees_cmp xs ys) e in
       let p : x ≡ y = tree_cmp-equal x y h.0 in
-      let q : xs ≡ ys = trees_cmp-equal xs ys h.1 in cc
+      let q : xs ≡ ys = trees_cmp-equal xs ys h.1 in
+      cc
 
 nat_cmp-self : (n : ℕ) → nat_cmp n n ≡ Equal
 nat_cmp-self n = grind (arith, nat_tests)
@@ -91,10 +99,7 @@ mutual
   trees_cmp-self Nil = refl
   trees_cmp-self (Cons x xs) = rw (tree_cmp-self x) (trees_cmp-self xs)
 
-pub tree_cmp-equal_iff : (a b : Tree) → tree_cmp a b ≡ Equal ↔ (a ≡ b)
-tree_cmp-equal_iff a b = (tree_cmp-equal a b, λ e. subst (λ x. tree_cmp a x ≡ Equal) e (tree_cmp-self a))
-
--- the same tree
+-- whether two trees are the same
 abbrev pub tree_same : Tree → Tree → Bool
 tree_same x y = is_eq (tree_cmp x y)
 
@@ -109,6 +114,7 @@ tree_same-equal x y e = tree_cmp-equal x y (is_eq-equal (tree_cmp x y) e)
 pub tree_same-self : (x : Tree) → tree_same x x ≡ true
 tree_same-self x = rw (tree_cmp-self x)
 
+-- whether two sorts are the same
 abbrev pub sort_same : Sort → Sort → Bool
 sort_same s t = is_eq (sort_cmp s t)
 
@@ -118,6 +124,7 @@ sort_same-equal s t e = sort_key-inj s t (nat_cmp-equal (sort_key s) (sort_key t
 pub sort_same-self : (s : Sort) → sort_same s s ≡ true
 sort_same-self s = rw (nat_cmp-self (sort_key s))
 
+-- whether two relations are the same
 abbrev pub rel_same : Rel → Rel → Bool
 rel_same r q = nat_eq (rel_key r) (rel_key q)
 

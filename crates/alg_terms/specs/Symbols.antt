@@ -1,5 +1,5 @@
 -- The table of built-in symbols: how many arguments each takes, of which sorts, and which sorts its value may have.
-use Rattle.std.specs.Prelude.{◌≡◌, ℕ, zero, suc, Bool, true, false, ◌&&◌, List, [], ◌∷◌, length}
+use Rattle.std.specs.Prelude.{Bool, true, false, ◌&&◌, List, [], ◌∷◌}
 use Rattle.alg_terms.specs.declared.sorts.Sort.{Sort}
 use Rattle.alg_terms.specs.declared.sorts.Sort.TheVariants.{Nat, Int, Rat, Decl}
 use Rattle.alg_terms.specs.declared.symbols.Sym.{Sym}
@@ -8,11 +8,12 @@ use Rattle.alg_terms.specs.declared.symbols.Place.{Place}
 use Rattle.alg_terms.specs.declared.symbols.Place.TheVariants.{Same, OfNat, OfInt}
 use Rattle.alg_terms.specs.Order.{sort_same}
 
+-- the symbol is no declared function
 abbrev pub is_built_in : Sym → Bool
 is_built_in (Apply k) = false
 is_built_in _ = true
 
--- the sorts of the arguments of a built-in symbol, each against the sort of the value
+-- the places of the arguments of a built-in symbol
 abbrev pub places : Sym → List Place
 places Add = Same ∷ Same ∷ []
 places Mul = Same ∷ Same ∷ []
@@ -37,13 +38,14 @@ places Choose = Same ∷ Same ∷ []
 places Fib = Same ∷ []
 places (Apply k) = []
 
+-- ℕ or ℤ, the sorts that have rounded division
 abbrev pub is_integral : Sort → Bool
 is_integral Nat = true
 is_integral Int = true
 is_integral Rat = false
 is_integral (Decl k) = false
 
--- the symbol has values of this sort, classes aside
+-- the symbol may have a value of this sort, classes aside
 abbrev pub serves : Sym → Sort → Bool
 serves NatSub s = sort_same s Nat
 serves IDiv s = is_integral s
@@ -55,7 +57,7 @@ serves Choose s = sort_same s Nat
 serves Fib s = sort_same s Nat
 serves _ s = true
 
--- an argument of sort t may stand at this place of a value of sort s
+-- an argument of sort t may stand at this place, where the value has sort s
 abbrev pub place_fits : Place → Sort → Sort → Bool
 place_fits Same s t = sort_same t s
 place_fits OfNat s t = sort_same t Nat
@@ -67,6 +69,6 @@ places_fit [] s ts = true
 places_fit (p ∷ ps) s [] = true
 places_fit (p ∷ ps) s (t ∷ ts) = place_fits p s t && places_fit ps s ts
 
--- a built-in symbol takes arguments of these sorts to a value of sort s, where their number is right
+-- a built-in symbol takes arguments of these sorts to a value of sort s, where as many stand there as it has places
 abbrev pub arguments_fit : Sym → Sort → List Sort → Bool
 arguments_fit f s ts = places_fit (places f) s ts && serves f s

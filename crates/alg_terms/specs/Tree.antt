@@ -1,5 +1,5 @@
--- Trees, statements and relations.
-use Rattle.std.specs.Prelude.{◌≡◌, ℕ, suc, ◌+◌, List, [], ◌∷◌, refl}
+-- Typed trees, and statements about them.
+use Rattle.std.specs.Prelude.{◌≡◌, ℕ, ◌+◌, List, [], ◌∷◌, refl}
 use Rattle.std.proofs.Common.{ap}
 use Rattle.alg_terms.specs.declared.sorts.Sort.{Sort}
 use Rattle.alg_terms.specs.declared.symbols.Sym.{Sym}
@@ -19,6 +19,7 @@ mutual
     Nil : Trees
     Cons : Tree → Trees → Trees
 
+-- the trees of a `Trees` as a plain list, and back
 abbrev pub to_list : Trees → List Tree
 to_list Nil = []
 to_list (Cons t ts) = t ∷ to_list ts
@@ -46,27 +47,18 @@ abbrev mutual
   node_counts Nil = 0
   node_counts (Cons t ts) = node_count t + node_counts ts
 
+-- a relation between two trees, with the sort that both should have
 pub record Statement : Type 0 where
   pub rel : Rel
   pub sort : Sort
   pub lhs : Tree
   pub rhs : Tree
 
+-- the sort of the value of a tree
 abbrev pub sort_of_tree : Tree → Sort
 sort_of_tree (Lit s n) = s
 sort_of_tree (Var d s) = s
 sort_of_tree (App f s xs) = s
-
--- a number that falls from a tree to its parts, and from a list to its head and its tail
-abbrev mutual
-  pub tree_weight : Tree → ℕ
-  tree_weight (Lit s n) = 0
-  tree_weight (Var d s) = 0
-  tree_weight (App f s ts) = suc (trees_weight ts)
-
-  pub trees_weight : Trees → ℕ
-  trees_weight Nil = 0
-  trees_weight (Cons t ts) = suc (tree_weight t + trees_weight ts)
 
 -- both sides of one sort are equal
 abbrev pub equal : Tree → Tree → Statement

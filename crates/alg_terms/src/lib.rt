@@ -2,10 +2,10 @@
 //! statements, the order of trees, and the causes for which a proof line is bad.
 #![tactic(auto)]
 
-pub mod causes;
-pub mod relations;
-pub mod sorts;
-pub mod symbols;
+mod causes;
+mod relations;
+mod sorts;
+mod symbols;
 
 pub use causes::BadCause;
 pub use relations::Rel;

@@ -25,6 +25,7 @@ impl Rel {
         self.number() == other.number()
     }
 
+    // its place in the order
     fn number(self) -> u8
         ensures { result ≡ rel_key self }
     {

@@ -45,6 +45,7 @@ impl Sort {
         }
     }
 
+    // its place in the order
     fn number(self) -> u64
         ensures { result ≡ sort_key self }
     {

@@ -6,7 +6,7 @@ ghost use Rattle.alg_terms.specs.Symbols.{places, serves, place_fits, places_fit
 use crate::sorts::Sort;
 use std::cmp::Ordering;
 
-/// The head of a compound tree, in the order of symbols.
+/// The head of a compound tree. The symbols stand in their order.
 #[derive(Clone, Copy, Debug, PartialEq, Eq, PartialOrd, Ord, Hash)]
 pub enum Sym {
     /// `a + b`
@@ -55,7 +55,7 @@ pub enum Sym {
     Apply(u32),
 }
 
-/// The sort that an argument must have.
+/// A place for an argument, by the sort that the argument must have.
 #[derive(Clone, Copy, Debug)]
 pub enum Place {
     /// The sort of the value.
@@ -114,7 +114,7 @@ impl Sym {
         }
     }
 
-    /// Whether the symbol has values of this sort, classes aside.
+    /// Whether the symbol may have a value of this sort, classes aside.
     pub fn serves(self, sort: Sort) -> bool
         ensures { result ≡ serves self sort }
     {
@@ -132,9 +132,10 @@ impl Sym {
         requires { length (places self) ≡ length arguments.now }
         ensures { result ≡ arguments_fit self sort arguments.now }
     {
-        places_serve(self.places(), sort, arguments) && self.serves(sort)
+        places_take(self.places(), sort, arguments) && self.serves(sort)
     }
 
+    // its place in the order
     fn number(self) -> u64
         ensures { result ≡ sym_key self }
     {
@@ -178,7 +179,8 @@ impl Place {
     }
 }
 
-fn places_serve(places: &[Place], sort: Sort, arguments: &[Sort]) -> bool
+// whether each argument may stand at its place
+fn places_take(places: &[Place], sort: Sort, arguments: &[Sort]) -> bool
     requires { length places.now ≡ length arguments.now }
     ensures { result ≡ places_fit places.now sort arguments.now }
 {

@@ -1,4 +1,4 @@
-use Rattle.std.proofs.Common.{length, ◌≡◌, ◌<◌}
+use Rattle.std.proofs.Common.{◌≡◌}
 use Rattle.alg_terms.specs.Order.{tree_cmp}
 use Rattle.alg_expr.specs.Ids.{tree_of, IsIn}
 use Rattle.alg_expr.proofs.arena.Arena.compare.Given as goal

@@ -1,6 +1,5 @@
 use Rattle.std.proofs.Common.{arith, Less}
-use Rattle.alg_expr.specs.declared.ids.ExprId.{ExprId}
-use Rattle.alg_expr.proofs.Comparing.{order-skip, AreApart-at, order-ends_left, order-ends_right}
+use Rattle.alg_expr.proofs.FirstApart.{order-skip, AreApart-at, order-ends_left, order-ends_right}
 use Rattle.alg_expr.proofs.arena.Arena.first_apart.Goals as goal
 
 pub returns-then-xs-i : goal.returns-then-xs-i

@@ -1,6 +1,5 @@
-use Rattle.std.proofs.Common.{arith, get_or}
+use Rattle.std.proofs.Common.{arith}
 use Rattle.alg_expr.proofs.Adding.{sizes_of-next}
-use Rattle.alg_expr.specs.declared.ids.ExprId.{ExprId}
 use Rattle.alg_expr.proofs.arena.Arena.sizes.Goals as goal
 
 pub loop-id-preserved : goal.loop-id-preserved

@@ -1,15 +1,14 @@
 -- The order of two trees, one look at a time.
-use Rattle.std.proofs.Common.{◌≡◌, ℕ, ◌<◌, ◌≤◌, ◌+◌, suc, List, [], ◌∷◌, length, get_or, drop, map, All, Contains, refl, ap, sym, ◌∙◌, subst, arith, add-one, Less, Greater}
+use Rattle.std.proofs.Common.{◌≡◌, ℕ, ◌<◌, ◌≤◌, ◌+◌, suc, List, length, get_or, drop, All, refl, ap, sym, ◌∙◌, subst, add-one, Less, Greater}
 use Rattle.std.proofs.Math.Seq.{drop-cons}
 use Rattle.std.proofs.Math.ListN.{drop_of_length-le}
-use Rattle.std.proofs.lemmas.List.Elements.{Contains-get_or, All-contains}
+use Rattle.std.proofs.lemmas.List.Elements.{Contains-get_or}
 use Rattle.std.specs.Ordering.{ordering_then}
 use Rattle.std.specs.declared.cmp.Ordering.{Ordering}
 use Rattle.std.specs.declared.cmp.Ordering.TheVariants.{Equal}
 use Rattle.alg_terms.specs.declared.sorts.Sort.{Sort}
-use Rattle.alg_terms.specs.declared.sorts.Sort.TheVariants.{Nat}
 use Rattle.alg_terms.specs.declared.symbols.Sym.{Sym}
-use Rattle.alg_terms.specs.Tree.{Tree, Trees, Lit, App, Cons, of_list}
+use Rattle.alg_terms.specs.Tree.{Tree, App, of_list}
 use Rattle.alg_terms.specs.Order.{tree_cmp, trees_cmp, sym_cmp, sort_cmp, tree_cmp-self, tree_cmp-equal}
 use Rattle.alg_expr.specs.declared.ids.ExprId.{ExprId}
 use Rattle.alg_expr.specs.Ids.{tree_of, IsIn, trees_at}
@@ -38,7 +37,7 @@ module _ (ts : List Tree) (xs ys : List ExprId) (i : ℕ) (d : ExprId) (o : Orde
       let x = get_or xs i d in
       let y = get_or ys i d in
       let differs : tree_cmp (tree_of ts x) (tree_of ts y) ≡ Equal → ⊥ =
-              λ e. differ (ap (λ (z : ExprId). z.index) (same_id-from_tree ts x y distinct (xs_in i d l) (ys_in i d m) (tree_cmp-equal _ _ e))) in
+      λ e. differ (ap (λ (z : ExprId). z.index) (same_id-from_tree ts x y distinct (xs_in i d l) (ys_in i d m) (tree_cmp-equal _ _ e))) in
       record {
         left = Contains-get_or xs i d l;
         right = Contains-get_or ys i d m;
