@@ -1,0 +1,9 @@
+pub mod Characters
+pub mod Longest
+pub mod Tokens
+pub mod Comments
+pub mod Items
+pub mod Reading
+pub mod Slices
+pub mod Scanning
+pub mod Answer

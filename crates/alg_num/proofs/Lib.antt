@@ -1,0 +1,3 @@
+mod Powers
+mod Reductions
+mod LeastSums

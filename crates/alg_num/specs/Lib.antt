@@ -1,0 +1,17 @@
+pub mod Range
+pub mod Fraction
+pub mod LowestTerms
+pub mod Answer
+pub mod Sum
+pub mod LeastSum
+pub mod Product
+pub mod Power
+pub mod Inverse
+pub mod Order
+pub mod Reduced
+pub mod IntegerLaws
+pub mod PowerLaws
+pub mod CoprimeLaws
+pub mod LowestTermsLaws
+pub mod ReducedLaws
+pub mod FractionLaws

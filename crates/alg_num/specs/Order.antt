@@ -1,0 +1,14 @@
+use Rattle.std.specs.Prelude.{pos, ◌*ℤ◌}
+use Rattle.std.specs.declared.cmp.Ordering.{Ordering}
+use Rattle.std.specs.Ordering.{int_cmp}
+use Rattle.alg_num.specs.Range.{InRange}
+use Rattle.alg_num.specs.Fraction.{Fraction}
+
+-- two fractions stand to each other as their cross products do
+abbrev pub order_of : Fraction → Fraction → Ordering
+order_of p q = int_cmp (p.numerator *ℤ pos q.denominator) (q.numerator *ℤ pos p.denominator)
+
+-- both cross products are in range
+pub record CrossProductsInRange (p q : Fraction) : Type 0 where
+  pub left : InRange (p.numerator *ℤ pos q.denominator)
+  pub right : InRange (q.numerator *ℤ pos p.denominator)
