@@ -9,6 +9,7 @@ use Rattle.alg_expr.specs.declared.arena.ExprFault.{ExprFault}
 use Rattle.alg_expr.specs.declared.arena.ExprFault.TheVariants as fault
 use Rattle.alg_expr.specs.Ids.{tree_of}
 
+-- the sorts of the trees of a list of ids
 abbrev pub sorts_at : List Tree → List ExprId → List Sort
 sorts_at ts es = map (λ e. sort_of_tree (tree_of ts e)) es
 
@@ -20,7 +21,7 @@ arity_fits f n = not (is_built_in f) || nat_eq n (length (places f))
 abbrev pub sorts_fit : Sym → Sort → List Sort → Bool
 sorts_fit f s ts = not (is_built_in f) || arguments_fit f s ts
 
--- a tree, or the first fault
+-- what comes of an application: a tree, or the first fault
 abbrev pub Builds : Sym → Sort → List Sort → Result ExprId ExprFault → Type 0
 Builds f s ts (Ok e) = (arity_fits f (length ts) ≡ true) × (sorts_fit f s ts ≡ true)
 Builds f s ts (Err fault.BadArity) = arity_fits f (length ts) ≡ false

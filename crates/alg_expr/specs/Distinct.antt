@@ -12,6 +12,7 @@ use Rattle.alg_terms.specs.Tree.{Tree, Lit}
 use Rattle.alg_expr.specs.declared.ids.ExprId.{ExprId}
 use Rattle.alg_expr.specs.Ids.{tree_of, IsIn, trees_at}
 
+-- two trees are not the same
 abbrev pub Differ : Tree → Tree → Type 0
 Differ s t = s ≡ t → ⊥
 

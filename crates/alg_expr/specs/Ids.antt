@@ -21,8 +21,10 @@ trees_at ts es = map (tree_of ts) es
 abbrev pub statement_of : List Tree → Stmt → Statement
 statement_of ts s = record { rel = s.rel; sort = s.sort; lhs = tree_of ts s.lhs; rhs = tree_of ts s.rhs }
 
+-- and a list of them
 abbrev pub statements_of : List Tree → List Stmt → List Statement
 statements_of ts ss = map (statement_of ts) ss
 
+-- both sides are of this arena
 abbrev pub IsStatementIn : List Tree → Stmt → Type 0
 IsStatementIn ts s = IsIn ts s.lhs × IsIn ts s.rhs

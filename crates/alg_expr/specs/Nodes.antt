@@ -19,6 +19,7 @@ abbrev pub trees_after : List Tree → List Node → List Tree
 trees_after ts [] = ts
 trees_after ts (n ∷ ns) = trees_after (ts ++ tree_at ts n ∷ []) ns
 
+-- the trees of a list of nodes
 abbrev pub trees_of : List Node → List Tree
 trees_of ns = trees_after [] ns
 
@@ -33,6 +34,7 @@ abbrev pub AllBelow_from : ℕ → List Node → Type 0
 AllBelow_from k [] = ⊤
 AllBelow_from k (n ∷ ns) = IsBelow k n × AllBelow_from (suc k) ns
 
+-- the parts of each node come before it
 abbrev pub AllBelow : List Node → Type 0
 AllBelow ns = AllBelow_from 0 ns
 

@@ -1,4 +1,4 @@
--- One look at two trees.
+-- One look at two trees, or at two lists of them.
 use Rattle.std.specs.Prelude.{◌≡◌, ◌<◌, List, Contains}
 use Rattle.std.specs.declared.cmp.Ordering.TheVariants.{Equal}
 use Rattle.alg_terms.specs.Tree.{Tree, of_list}
@@ -14,17 +14,19 @@ pub record HaveOrder (ts : List Tree) (a b x y : ExprId) : Type 0 where
   pub right : y.index < b.index
   pub order : tree_cmp (tree_of ts x) (tree_of ts y) ≡ tree_cmp (tree_of ts a) (tree_of ts b)
 
+-- the order of two trees, or two parts that have it
 abbrev pub Steps : List Tree → ExprId → ExprId → Step → Type 0
 Steps ts a b (step.Decided order) = order ≡ tree_cmp (tree_of ts a) (tree_of ts b)
 Steps ts a b (step.Deeper x y) = HaveOrder ts a b x y
 
--- x and y are the first parts that differ
+-- x and y are parts that differ and decide the order of the two lists
 pub record AreApart (ts : List Tree) (xs ys : List ExprId) (x y : ExprId) : Type 0 where
   pub left : Contains xs x
   pub right : Contains ys y
   pub order : tree_cmp (tree_of ts x) (tree_of ts y) ≡ trees_cmp (of_list (trees_at ts xs)) (of_list (trees_at ts ys))
   pub differ : tree_cmp (tree_of ts x) (tree_of ts y) ≡ Equal → ⊥
 
+-- the order of two lists, or two parts that decide it
 abbrev pub StepsInto : List Tree → List ExprId → List ExprId → Step → Type 0
 StepsInto ts xs ys (step.Decided order) = order ≡ trees_cmp (of_list (trees_at ts xs)) (of_list (trees_at ts ys))
 StepsInto ts xs ys (step.Deeper x y) = AreApart ts xs ys x y

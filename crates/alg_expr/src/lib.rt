@@ -8,6 +8,8 @@ mod importing;
 mod items;
 mod memory;
 mod nodes;
+#[cfg(test)]
+mod tests;
 mod text;
 
 pub use alg_terms::{BadCause, Place, Rel, Sort, Sym};
