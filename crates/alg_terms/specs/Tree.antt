@@ -64,8 +64,10 @@ sort_of_tree (App f s xs) = s
 abbrev pub equal : Tree → Tree → Statement
 equal x y = record { rel = Eq; sort = sort_of_tree x; lhs = x; rhs = y }
 
+-- the sum of two trees, of this sort
 abbrev pub sum_tree : Sort → Tree → Tree → Tree
 sum_tree s x y = App Add s (Cons x (Cons y Nil))
 
+-- their product
 abbrev pub product_tree : Sort → Tree → Tree → Tree
 product_tree s x y = App Mul s (Cons x (Cons y Nil))
