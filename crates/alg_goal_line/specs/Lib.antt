@@ -1,0 +1,5 @@
+pub mod Literals
+pub mod Sums
+pub mod Words
+pub mod Spelling
+pub mod Reading
