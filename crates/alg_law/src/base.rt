@@ -74,8 +74,8 @@ impl Base {
         }
     }
 
-    // the sorts of the function that is declaration k
-    pub(crate) fn function(&self, k: u32) -> Option<Signature<'_>>
+    /// The sorts of the function that is declaration k.
+    pub fn function(&self, k: u32) -> Option<Signature<'_>>
         ensures { IsSignature result (function_of (slice_get self.now k)) }
     {
         match self.declared.get(k as usize) {
@@ -90,9 +90,9 @@ impl Base {
 
 /// The sorts of a declared function's arguments and value.
 #[derive(Clone, Copy)]
-pub(crate) struct Signature<'a> {
-    pub(crate) args: &'a [Sort],
-    pub(crate) result: Sort,
+pub struct Signature<'a> {
+    pub args: &'a [Sort],
+    pub result: Sort,
 }
 
 // whether one of the declarations is an instance that gives the class

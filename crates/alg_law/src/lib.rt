@@ -7,7 +7,7 @@ pub mod declarations;
 pub mod laws;
 pub mod marks;
 
-pub use base::{Base, has};
+pub use base::{Base, Signature, has};
 pub use classes::Class;
 pub use declarations::Declared;
 pub use laws::{Need, PatSort};

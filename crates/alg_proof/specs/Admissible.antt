@@ -65,7 +65,7 @@ module _ (ds : List Declaration) (given : Option Statement) where
   fine_line done zero s h e = cc
   fine_line done (suc i) s h e = fine_at done i s h e
 
-  AllFine-push : (done : List Statement) (s : Statement) → AllFine done → IsFine s → AllFine (done ++ s ∷ [])
+  pub AllFine-push : (done : List Statement) (s : Statement) → AllFine done → IsFine s → AllFine (done ++ s ∷ [])
   AllFine-push [] s h f = (f, tt)
   AllFine-push (x ∷ xs) s h f = (h.0, AllFine-push xs s h.1 f)
 
@@ -74,7 +74,7 @@ module _ (ds : List Declaration) (given : Option Statement) where
   join-some (Some s) None ss e = cc
   join-some (Some s) (Some rest) ss e = (s, rest, refl, refl, cc)
 
-  fine_lines : (done : List Statement) (is : List ℕ) (ss : List Statement) → AllFine done → statements_at done is ≡ Some ss → AllFine ss
+  pub fine_lines : (done : List Statement) (is : List ℕ) (ss : List Statement) → AllFine done → statements_at done is ≡ Some ss → AllFine ss
   fine_lines done [] ss h e = let q : [] ≡ ss = cc in subst AllFine q tt
   fine_lines done (i ∷ is) ss h e =
       let j = join-some (line_at done i) (statements_at done is) ss e in
@@ -135,7 +135,7 @@ module _ (ds : List Declaration) (given : Option Statement) where
   rights_good [] h = refl
   rights_good (s ∷ ss) h = worse-good (mark_of ds s.rhs) _ h.0.statement.right (rights_good ss h.1)
 
-  sides_sorts : (ss : List Statement) → AllFine ss → sorts_of (right_sides ss) ≡ sorts_of (left_sides ss)
+  pub sides_sorts : (ss : List Statement) → AllFine ss → sorts_of (right_sides ss) ≡ sorts_of (left_sides ss)
   sides_sorts [] h = refl
   sides_sorts (s ∷ ss) h =
       let p : sort_of_tree s.rhs ≡ sort_of_tree s.lhs = h.0.statement.right_sort ∙ sym h.0.statement.left_sort in

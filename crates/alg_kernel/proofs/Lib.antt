@@ -1,0 +1,5 @@
+pub mod TreeLemmas
+pub mod SideLemmas
+pub mod PremiseLemmas
+pub mod CongLemmas
+pub mod LineLemmas

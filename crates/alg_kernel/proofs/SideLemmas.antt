@@ -1,0 +1,125 @@
+-- The sides of earlier lines as trees, and what a good mark of a symbol tells.
+use Rattle.std.proofs.Common.{◌≡◌, ℕ, zero, suc, ◌<◌, List, [], ◌∷◌, length, map, get_or, drop, drop-cons, drop_of_length-le, ◌≤◌, Some, None, refl, ap, sym, ◌∙◌, subst, arith, All, Bool, true, false, ◌&&◌, ◌||◌, not, nat_eq, if◌then◌else◌}
+use Rattle.std.proofs.lemmas.Bool.{and_parts}
+use Rattle.std.proofs.lemmas.Bool.Decides.{nat_tests}
+use Rattle.std.proofs.lemmas.List.{length-map}
+use Rattle.std.proofs.lemmas.List.Elements.{All-head, All-tail}
+use Rattle.alg_terms.specs.declared.sorts.Sort.{Sort}
+use Rattle.alg_terms.specs.declared.symbols.Sym.{Sym}
+use Rattle.alg_terms.specs.declared.symbols.Sym.TheVariants.{Add, Mul, Neg, Sub, Inv, Div, Npow, Zpow, Nsmul, Zsmul, Abs, Min, Max, NatSub, IDiv, Mod, Gcd, Lcm, Fact, Choose, Fib, Apply}
+use Rattle.alg_terms.specs.Symbols.{places, arguments_fit, is_built_in}
+use Rattle.alg_terms.specs.Tree.{Tree, Cons, of_list, Statement, sort_of_tree}
+use Rattle.alg_expr.specs.declared.ids.ExprId.{ExprId}
+use Rattle.alg_expr.specs.declared.ids.Stmt.{Stmt}
+use Rattle.alg_expr.specs.Ids.{tree_of, trees_at, IsIn, statement_of, statements_of, IsStatementIn}
+use Rattle.alg_expr.specs.Applying.{arity_fits, sorts_fit, sorts_at}
+use Rattle.alg_law.specs.declared.marks.Mark.{Mark}
+use Rattle.alg_law.specs.declared.marks.Mark.TheVariants.{Good, NoInstance, BadSort, BadName}
+use Rattle.alg_law.specs.Declarations.{Declaration}
+use Rattle.alg_law.specs.WellSorted.{worse, sort_mark, head_mark, symbol_mark, built_in_mark, class_mark, has_classes, sorts_of}
+use Rattle.alg_proof.specs.Steps.{left_sides, right_sides}
+use Rattle.alg_terms.specs.declared.symbols.Place.{Place}
+use Rattle.alg_terms.specs.declared.symbols.Place.TheVariants.{Same, OfNat, OfInt}
+use Rattle.alg_proof.specs.Steps.{same_sort}
+use Rattle.alg_kernel.specs.Sides.{left_ids, right_ids, is_same}
+
+pub left_sides-ids : (ts : List Tree) (ss : List Stmt) → left_sides (statements_of ts ss) ≡ of_list (trees_at ts (left_ids ss))
+left_sides-ids ts [] = refl
+left_sides-ids ts (s ∷ ss) = ap (λ xs. Cons (tree_of ts s.lhs) xs) (left_sides-ids ts ss)
+
+pub right_sides-ids : (ts : List Tree) (ss : List Stmt) → right_sides (statements_of ts ss) ≡ of_list (trees_at ts (right_ids ss))
+right_sides-ids ts [] = refl
+right_sides-ids ts (s ∷ ss) = ap (λ xs. Cons (tree_of ts s.rhs) xs) (right_sides-ids ts ss)
+
+pub left-sorts : (ts : List Tree) (ss : List Stmt) → sorts_of (left_sides (statements_of ts ss)) ≡ sorts_at ts (left_ids ss)
+left-sorts ts [] = refl
+left-sorts ts (s ∷ ss) = ap (λ xs. sort_of_tree (tree_of ts s.lhs) ∷ xs) (left-sorts ts ss)
+
+pub right-sorts : (ts : List Tree) (ss : List Stmt) → sorts_of (right_sides (statements_of ts ss)) ≡ sorts_at ts (right_ids ss)
+right-sorts ts [] = refl
+right-sorts ts (s ∷ ss) = ap (λ xs. sort_of_tree (tree_of ts s.rhs) ∷ xs) (right-sorts ts ss)
+
+pub lefts-in : (ts : List Tree) (ss : List Stmt) → All (IsStatementIn ts) ss → All (IsIn ts) (left_ids ss)
+lefts-in ts [] h k d l = absurd (omega (arith, l))
+lefts-in ts (s ∷ ss) h zero d l = (All-head (IsStatementIn ts) s ss h).0
+lefts-in ts (s ∷ ss) h (suc k) d l = lefts-in ts ss (All-tail (IsStatementIn ts) s ss h) k d (omega (arith, l))
+
+pub rights-in : (ts : List Tree) (ss : List Stmt) → All (IsStatementIn ts) ss → All (IsIn ts) (right_ids ss)
+rights-in ts [] h k d l = absurd (omega (arith, l))
+rights-in ts (s ∷ ss) h zero d l = (All-head (IsStatementIn ts) s ss h).1
+rights-in ts (s ∷ ss) h (suc k) d l = rights-in ts ss (All-tail (IsStatementIn ts) s ss h) k d (omega (arith, l))
+
+-- a good mark of a symbol
+built_in-good : (b : Bool) (m : Mark) → (if b then m else BadSort) ≡ Good → b ≡ true
+built_in-good true m e = refl
+built_in-good false m e = cc
+
+flip : (m n : ℕ) → nat_eq m n ≡ true → nat_eq n m ≡ true
+flip m n e = grind (arith, nat_tests)
+
+built_in-fits : (ds : List Declaration) (f : Sym) (s : Sort) (ts : List Sort) → built_in_mark ds f s ts ≡ Good → (nat_eq (length ts) (length (places f)) ≡ true) × (arguments_fit f s ts ≡ true)
+built_in-fits ds f s ts e =
+    let b = built_in-good (nat_eq (length (places f)) (length ts) && arguments_fit f s ts) (class_mark (has_classes ds f s)) e in
+    let p = and_parts (nat_eq (length (places f)) (length ts)) (arguments_fit f s ts) b in
+    (flip (length (places f)) (length ts) p.0, p.1)
+
+symbol-fits : (ds : List Declaration) (f : Sym) (s : Sort) (ts : List Sort) → symbol_mark ds f s ts ≡ Good → (arity_fits f (length ts) ≡ true) × (sorts_fit f s ts ≡ true)
+symbol-fits ds (Apply k) s ts e = (refl, refl)
+symbol-fits ds Add s ts e = built_in-fits ds Add s ts e
+symbol-fits ds Mul s ts e = built_in-fits ds Mul s ts e
+symbol-fits ds Neg s ts e = built_in-fits ds Neg s ts e
+symbol-fits ds Sub s ts e = built_in-fits ds Sub s ts e
+symbol-fits ds Inv s ts e = built_in-fits ds Inv s ts e
+symbol-fits ds Div s ts e = built_in-fits ds Div s ts e
+symbol-fits ds Npow s ts e = built_in-fits ds Npow s ts e
+symbol-fits ds Zpow s ts e = built_in-fits ds Zpow s ts e
+symbol-fits ds Nsmul s ts e = built_in-fits ds Nsmul s ts e
+symbol-fits ds Zsmul s ts e = built_in-fits ds Zsmul s ts e
+symbol-fits ds Abs s ts e = built_in-fits ds Abs s ts e
+symbol-fits ds Min s ts e = built_in-fits ds Min s ts e
+symbol-fits ds Max s ts e = built_in-fits ds Max s ts e
+symbol-fits ds NatSub s ts e = built_in-fits ds NatSub s ts e
+symbol-fits ds IDiv s ts e = built_in-fits ds IDiv s ts e
+symbol-fits ds Mod s ts e = built_in-fits ds Mod s ts e
+symbol-fits ds Gcd s ts e = built_in-fits ds Gcd s ts e
+symbol-fits ds Lcm s ts e = built_in-fits ds Lcm s ts e
+symbol-fits ds Fact s ts e = built_in-fits ds Fact s ts e
+symbol-fits ds Choose s ts e = built_in-fits ds Choose s ts e
+symbol-fits ds Fib s ts e = built_in-fits ds Fib s ts e
+
+worse-good-right : (a b : Mark) → worse a b ≡ Good → b ≡ Good
+worse-good-right Good b e = e
+worse-good-right NoInstance Good e = refl
+worse-good-right NoInstance NoInstance e = cc
+worse-good-right NoInstance BadSort e = cc
+worse-good-right NoInstance BadName e = cc
+worse-good-right BadSort Good e = refl
+worse-good-right BadSort NoInstance e = cc
+worse-good-right BadSort BadSort e = cc
+worse-good-right BadSort BadName e = cc
+worse-good-right BadName b e = cc
+
+pub head-fits : (ds : List Declaration) (f : Sym) (s : Sort) (ts : List Sort) → head_mark ds f s ts ≡ Good → (arity_fits f (length ts) ≡ true) × (sorts_fit f s ts ≡ true)
+head-fits ds f s ts e = symbol-fits ds f s ts (worse-good-right (sort_mark ds s) (symbol_mark ds f s ts) e)
+
+-- the first argument that has the sort of the value
+same-head : (p : Place) (ps : List Place) (t : Sort) (ts : List Sort) → is_same p ≡ true → same_sort (p ∷ ps) (t ∷ ts) ≡ Some t
+same-head Same ps t ts e = refl
+same-head OfNat ps t ts e = cc
+same-head OfInt ps t ts e = cc
+
+same-tail : (p : Place) (ps : List Place) (t : Sort) (ts : List Sort) → is_same p ≡ false → same_sort (p ∷ ps) (t ∷ ts) ≡ same_sort ps ts
+same-tail Same ps t ts e = cc
+same-tail OfNat ps t ts e = refl
+same-tail OfInt ps t ts e = refl
+
+pub no-arguments : (ps : List Place) → same_sort ps [] ≡ None
+no-arguments [] = refl
+no-arguments (p ∷ ps) = refl
+
+module _ (ts : List Tree) (ps : List Place) (es : List ExprId) (i : ℕ) (d : Place) (e : ExprId) (l : i < length ps) (m : i < length es) where
+  pub same-here : is_same (get_or ps i d) ≡ true → same_sort (drop i ps) (sorts_at ts (drop i es)) ≡ Some (sort_of_tree (tree_of ts (get_or es i e)))
+  same-here t = rw (drop-cons ps i d l, drop-cons es i e m) (same-head (get_or ps i d) (drop (suc i) ps) (sort_of_tree (tree_of ts (get_or es i e))) (sorts_at ts (drop (suc i) es)) t)
+
+  pub same-next : is_same (get_or ps i d) ≡ false → same_sort (drop i ps) (sorts_at ts (drop i es)) ≡ same_sort (drop (suc i) ps) (sorts_at ts (drop (suc i) es))
+  same-next t = rw (drop-cons ps i d l, drop-cons es i e m) (same-tail (get_or ps i d) (drop (suc i) ps) (sort_of_tree (tree_of ts (get_or es i e))) (sorts_at ts (drop (suc i) es)) t)

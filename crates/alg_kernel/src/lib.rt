@@ -1,0 +1,11 @@
+//! The trusted checker: a list of proof lines is accepted exactly where it is valid and ends in the goal.
+#![tactic(auto)]
+
+mod congruence;
+pub mod answers;
+pub mod kernel;
+mod rules;
+
+pub use alg_terms::BadCause;
+pub use answers::{Checked, Refusal};
+pub use kernel::accept;
