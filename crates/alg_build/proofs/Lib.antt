@@ -1,0 +1,4 @@
+pub mod Growing
+pub mod Concluding
+pub mod Fitting
+pub mod Lines

@@ -1,0 +1,8 @@
+use Rattle.std.proofs.Common.{subst}
+use Rattle.alg_build.specs.Book.{Book, theory_of}
+use Rattle.alg_build.specs.Good.{AreGood}
+use Rattle.alg_build.specs.Accepting.{good_accepted}
+use Rattle.alg_build.proofs.builder.Builder.into_parts.Goals as goal
+
+pub returns-clause-valid : goal.returns-clause-valid
+returns-clause-valid c = λ s. good_accepted (theory_of c.args.self) c.args.self.steps c.args.self.done s (subst (λ (b : Book). AreGood (theory_of b) b.steps b.done) c.self.view_is c.self.invariant.good)

@@ -1,0 +1,5 @@
+pub mod Book
+pub mod Good
+pub mod Codes
+pub mod Inside
+pub mod Accepting

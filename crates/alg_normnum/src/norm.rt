@@ -1,0 +1,320 @@
+ghost use Rattle.std.specs.Prelude.{◌≡◌, ℕ, ◌+◌, ◌*◌, ◌<◌, ◌≤◌, ◌^◌, ◌++◌, [], ◌∷◌, length, OnErr, IfOk, IfSome, IsNone, ◌≢◌, ◌↔◌, IsTrue};
+ghost use Rattle.alg_terms.specs.Tree.{Lit, App, Cons, Nil, Statement, sum_tree, product_tree};
+ghost use Rattle.alg_expr.specs.Ids.{tree_of, IsIn, statement_of, IsStatementIn};
+ghost use Rattle.alg_build.specs.Book.{Proves, IsEquation, Grows, KeepsLines, left_at, right_at};
+ghost use Rattle.alg_normnum.specs.Values.{answer_to};
+ghost use Rattle.alg_normnum.specs.Goals.{IsSumGoal, Answers, Closes};
+ghost use Rattle.alg_normnum.specs.Found.{IsNumber, IsValued, AreValued, Meets};
+
+use alg_build::{Builder, Outcome, TacFault};
+use alg_expr::{ExprId, Memory, Sort, Stmt, Sym, View};
+
+const LIMIT: u128 = 0x7fff_ffff_ffff_ffff_ffff_ffff_ffff_ffff;
+
+/// The value of a tree, with the number of a line that concludes it.
+#[derive(Clone, Copy)]
+enum Valued {
+    Num { value: u128, line: usize },
+    Past,
+    Unvalued,
+}
+
+// a literal, which is its own value
+fn literal(cx: &mut Builder, e: ExprId, value: u128) -> Result<Valued, Memory>
+    requires here { IsIn cx.old.trees e }
+    requires tree { tree_of cx.old.trees e ≡ Lit Sort.Nat value }
+    ensures valued { IfOk result (λ v. IsValued cx.new (tree_of cx.old.trees e) v) }
+    ensures grows { Grows cx.old cx.new }
+{
+    if value > LIMIT {
+        return Ok(Valued::Past);
+    }
+    let line = cx.refl(e)?;
+    Ok(Valued::Num { value, line })
+}
+
+// both parts as numbers, and then their sum
+fn sum(
+    cx: &mut Builder,
+    a: ExprId,
+    m: u128,
+    i: usize,
+    b: ExprId,
+    n: u128,
+    j: usize,
+) -> Result<Valued, Memory>
+    requires left { IsNumber cx.old (tree_of cx.old.trees a) m i }
+    requires right { IsNumber cx.old (tree_of cx.old.trees b) n j }
+    ensures valued { IfOk result (λ v. IsValued cx.new (sum_tree Sort.Nat (tree_of cx.old.trees a) (tree_of cx.old.trees b)) v) }
+    ensures grows { Grows cx.old cx.new }
+{
+    let total = m + n;
+    if total > LIMIT {
+        return Ok(Valued::Past);
+    }
+    let parts = cx.cong(Sym::Add, Sort::Nat, &[i, j])?;
+    let law = cx.lit_add(Sort::Nat, m, n)?;
+    let line = cx.trans(parts, law)?;
+    Ok(Valued::Num { value: total, line })
+}
+
+// both parts as numbers, and then their product
+fn product(
+    cx: &mut Builder,
+    a: ExprId,
+    m: u128,
+    i: usize,
+    b: ExprId,
+    n: u128,
+    j: usize,
+) -> Result<Valued, Memory>
+    requires left { IsNumber cx.old (tree_of cx.old.trees a) m i }
+    requires right { IsNumber cx.old (tree_of cx.old.trees b) n j }
+    ensures valued { IfOk result (λ v. IsValued cx.new (product_tree Sort.Nat (tree_of cx.old.trees a) (tree_of cx.old.trees b)) v) }
+    ensures grows { Grows cx.old cx.new }
+{
+    match m.checked_mul(n) {
+        Some(total) if total <= LIMIT => {}
+        _ => return Ok(Valued::Past),
+    }
+    let parts = cx.cong(Sym::Mul, Sort::Nat, &[i, j])?;
+    let law = cx.lit_mul(Sort::Nat, m, n)?;
+    let line = cx.trans(parts, law)?;
+    Ok(Valued::Num { value: m * n, line })
+}
+
+fn added(cx: &mut Builder, a: ExprId, x: Valued, b: ExprId, y: Valued) -> Result<Valued, Memory>
+    requires left { IsValued cx.old (tree_of cx.old.trees a) x }
+    requires right { IsValued cx.old (tree_of cx.old.trees b) y }
+    ensures valued { IfOk result (λ v. IsValued cx.new (sum_tree Sort.Nat (tree_of cx.old.trees a) (tree_of cx.old.trees b)) v) }
+    ensures grows { Grows cx.old cx.new }
+{
+    match x {
+        Valued::Num { value: m, line: i } => match y {
+            Valued::Num { value: n, line: j } => sum(cx, a, m, i, b, n, j),
+            Valued::Past => Ok(Valued::Past),
+            Valued::Unvalued => Ok(Valued::Unvalued),
+        },
+        Valued::Past => match y {
+            Valued::Num { .. } | Valued::Past => Ok(Valued::Past),
+            Valued::Unvalued => Ok(Valued::Unvalued),
+        },
+        Valued::Unvalued => Ok(Valued::Unvalued),
+    }
+}
+
+fn multiplied(
+    cx: &mut Builder,
+    a: ExprId,
+    x: Valued,
+    b: ExprId,
+    y: Valued,
+) -> Result<Valued, Memory>
+    requires left { IsValued cx.old (tree_of cx.old.trees a) x }
+    requires right { IsValued cx.old (tree_of cx.old.trees b) y }
+    ensures valued { IfOk result (λ v. IsValued cx.new (product_tree Sort.Nat (tree_of cx.old.trees a) (tree_of cx.old.trees b)) v) }
+    ensures grows { Grows cx.old cx.new }
+{
+    match x {
+        Valued::Num { value: m, line: i } => match y {
+            Valued::Num { value: n, line: j } => product(cx, a, m, i, b, n, j),
+            Valued::Past => Ok(Valued::Past),
+            Valued::Unvalued => Ok(Valued::Unvalued),
+        },
+        Valued::Past => match y {
+            Valued::Num { .. } | Valued::Past => Ok(Valued::Past),
+            Valued::Unvalued => Ok(Valued::Unvalued),
+        },
+        Valued::Unvalued => Ok(Valued::Unvalued),
+    }
+}
+
+fn combined(
+    cx: &mut Builder,
+    sym: Sym,
+    a: ExprId,
+    x: Valued,
+    b: ExprId,
+    y: Valued,
+) -> Result<Valued, Memory>
+    requires left { IsValued cx.old (tree_of cx.old.trees a) x }
+    requires right { IsValued cx.old (tree_of cx.old.trees b) y }
+    ensures valued { IfOk result (λ v. IsValued cx.new (App sym Sort.Nat (Cons (tree_of cx.old.trees a) (Cons (tree_of cx.old.trees b) Nil))) v) }
+    ensures grows { Grows cx.old cx.new }
+{
+    match sym {
+        Sym::Add => added(cx, a, x, b, y),
+        Sym::Mul => multiplied(cx, a, x, b, y),
+        _ => Ok(Valued::Unvalued),
+    }
+}
+
+// the parts of a symbol over two
+fn two(args: &[ExprId]) -> Option<(ExprId, ExprId)>
+    ensures some { IfSome result (λ p. args.now ≡ p.0 ∷ p.1 ∷ []) }
+    ensures none { IsNone result → length args.now ≢ 2 }
+{
+    match args {
+        [a, b] => Some((*a, *b)),
+        _ => None,
+    }
+}
+
+fn is_nat(sort: Sort) -> bool
+    ensures { IsTrue result ↔ (sort ≡ Sort.Nat) }
+{
+    matches!(sort, Sort::Nat)
+}
+
+// the value of one node, from those of its parts
+fn node(cx: &mut Builder, found: &[Valued], e: ExprId) -> Result<Valued, Memory>
+    requires here { IsIn cx.old.trees e }
+    requires found { AreValued cx.old found.now }
+    requires before { e.index ≤ length found.now }
+    ensures valued { IfOk result (λ v. IsValued cx.new (tree_of cx.old.trees e) v) }
+    ensures grows { Grows cx.old cx.new }
+{
+    match cx.arena().view(e) {
+        View::Lit { sort, value } => {
+            if is_nat(sort) {
+                return literal(cx, e, value);
+            }
+            Ok(Valued::Unvalued)
+        }
+        View::Var { .. } => Ok(Valued::Unvalued),
+        View::App { sym, sort, args } => {
+            if !is_nat(sort) {
+                return Ok(Valued::Unvalued);
+            }
+            match two(args) {
+                Some((a, b)) => {
+                    let x = found[a.number()];
+                    let y = found[b.number()];
+                    combined(cx, sym, a, x, b, y)
+                }
+                None => Ok(Valued::Unvalued),
+            }
+        }
+    }
+}
+
+fn push(found: &mut Vec<Valued>, v: Valued) -> Result<(), Memory>
+    ensures { IfOk result (λ _. found.new.items ≡ found.old.items ++ v ∷ []) }
+{
+    match found.push(v) {
+        Ok(()) => Ok(()),
+        Err(_) => Err(Memory),
+    }
+}
+
+// the values of the first trees, in the order of their numbers, so that the parts of a tree come before it
+fn all_values(cx: &mut Builder, count: usize) -> Result<Vec<Valued>, Memory>
+    requires { count ≤ length cx.old.trees }
+    ensures valued { IfOk result (λ found. AreValued cx.new found.items × (length found.items ≡ count)) }
+    ensures grows { Grows cx.old cx.new }
+{
+    let mut found: Vec<Valued> = Vec::new(cx.alloc());
+    for i in 0..count {
+        let e = cx.arena().id(i);
+        let v = node(cx, &found, e)?;
+        push(&mut found, v)?;
+    }
+    Ok(found)
+}
+
+// a line for l = r, where there are lines for l = v and r = v
+fn meet(cx: &mut Builder, i: usize, j: usize) -> Result<usize, Memory>
+    requires first { IsEquation cx.old i }
+    requires second { IsEquation cx.old j }
+    requires same { right_at cx.old i ≡ right_at cx.old j }
+    ensures proves { IfOk result (λ n. Proves cx.new n (left_at cx.old i) (left_at cx.old j)) }
+    ensures grows { Grows cx.old cx.new }
+{
+    let back = cx.symm(j)?;
+    cx.trans(i, back)
+}
+
+// a line for l = r, where both have this number
+fn equal_numbers(
+    cx: &mut Builder,
+    l: ExprId,
+    i: usize,
+    r: ExprId,
+    j: usize,
+    n: u128,
+) -> Result<usize, Memory>
+    requires left { IsNumber cx.old (tree_of cx.old.trees l) n i }
+    requires right { IsNumber cx.old (tree_of cx.old.trees r) n j }
+    ensures proves { IfOk result (λ k. Proves cx.new k (tree_of cx.old.trees l) (tree_of cx.old.trees r)) }
+    ensures grows { Grows cx.old cx.new }
+{
+    meet(cx, i, j)
+}
+
+// whether both sides have one value, and then a line that concludes the goal
+fn compare(cx: &mut Builder, goal: Stmt, x: Valued, y: Valued) -> Result<usize, TacFault>
+    requires left { IsValued cx.old (tree_of cx.old.trees goal.lhs) x }
+    requires right { IsValued cx.old (tree_of cx.old.trees goal.rhs) y }
+    ensures answer { Meets result (answer_to (statement_of cx.old.trees goal)) }
+    ensures closed { IfOk result (λ n. Proves cx.new n (tree_of cx.old.trees goal.lhs) (tree_of cx.old.trees goal.rhs)) }
+    ensures grows { Grows cx.old cx.new }
+{
+    match x {
+        Valued::Num { value: m, line: i } => match y {
+            Valued::Num { value: n, line: j } => {
+                if m != n {
+                    return Err(TacFault::GoalFalse);
+                }
+                match equal_numbers(cx, goal.lhs, i, goal.rhs, j, m) {
+                    Ok(line) => Ok(line),
+                    Err(_) => Err(TacFault::Memory),
+                }
+            }
+            Valued::Past => Err(TacFault::OutOfRange),
+            Valued::Unvalued => Err(TacFault::NotThisGoal),
+        },
+        Valued::Past => match y {
+            Valued::Num { .. } | Valued::Past => Err(TacFault::OutOfRange),
+            Valued::Unvalued => Err(TacFault::NotThisGoal),
+        },
+        Valued::Unvalued => Err(TacFault::NotThisGoal),
+    }
+}
+
+#[tactic(auto, using(alg_build::proofs::Lines::lines))]
+fn attempt(cx: &mut Builder, goal: Stmt) -> Result<usize, TacFault>
+    requires { IsStatementIn cx.old.trees goal }
+    ensures answer { Meets result (answer_to (statement_of cx.old.trees goal)) }
+    ensures closed { IfOk result (λ n. Proves cx.new n (tree_of cx.old.trees goal.lhs) (tree_of cx.old.trees goal.rhs)) }
+    ensures grows { Grows cx.old cx.new }
+{
+    let count = cx.arena().len();
+    let found = match all_values(cx, count) {
+        Ok(found) => found,
+        Err(_) => return Err(TacFault::Memory),
+    };
+    let x = found[goal.lhs.number()];
+    let y = found[goal.rhs.number()];
+    compare(cx, goal, x, y)
+}
+
+/// Closes an equation of ℕ whose sides have only literals, sums and products, by their values. `OutOfRange` comes
+/// exactly where a sum or product at some node is above 2^127 - 1, and else `GoalFalse` exactly where the values
+/// differ. After any fault the lines are as before.
+pub fn norm_num(cx: &mut Builder, goal: Stmt) -> Result<Outcome, TacFault>
+    requires here { IsStatementIn cx.old.trees goal }
+    requires sums { IsSumGoal (statement_of cx.old.trees goal) }
+    ensures answer { Answers result (answer_to (statement_of cx.old.trees goal)) }
+    ensures closed { IfOk result (λ o. Closes cx.new o (statement_of cx.old.trees goal)) }
+    ensures grows { Grows cx.old cx.new }
+    ensures leaves { OnErr result (KeepsLines cx.old cx.new) }
+{
+    let mark = cx.mark();
+    match attempt(cx, goal) {
+        Ok(line) => Ok(Outcome::Closed { line }),
+        Err(fault) => {
+            cx.back_to(mark);
+            Err(fault)
+        }
+    }
+}
