@@ -21,7 +21,8 @@ use Rattle.alg_expr.specs.Arena.{Extends, IsIn-extends, tree_of-extends}
 use Rattle.alg_law.specs.declared.marks.Mark.{Mark}
 use Rattle.alg_law.specs.declared.marks.Mark.TheVariants.{Good, BadSort}
 use Rattle.alg_law.specs.Declarations.{Declaration}
-use Rattle.alg_law.specs.WellSorted.{symbol_mark, built_in_mark, class_mark, has_classes, of_function, function_of, sorts_same, same_mark, sorts_of}
+use Rattle.alg_law.specs.WellSorted.{symbol_mark, head_mark, sort_mark, built_in_mark, class_mark, has_classes, of_function, function_of, sorts_same, same_mark, sorts_of}
+use Rattle.alg_law.specs.WellSortedLaws.{worse-parts}
 use Rattle.alg_proof.specs.Steps.{Theory, Cong, line_at, conclude, value_sort, same_sort, second_of, name_mark, name_of, statements_at, left_sides, right_sides, all_equations, cong_of}
 use Rattle.alg_build.specs.Book.{Book, theory_of, fact, left_at, right_at, lefts_at, rights_at, IsEquation, KeepsLines, Makes}
 use Rattle.alg_build.specs.Good.{HasOneSort}
@@ -124,8 +125,8 @@ kind_fits ds _ s ts (declared k) e =
     let v = function_sort (function_of (slice_get ds k)) s ts e in
     record { value = v; name = ap name_of v; arity = refl; sorts = refl }
 
-pub fits : (ds : List Declaration) (f : Sym) (s : Sort) (ts : List Sort) → symbol_mark ds f s ts ≡ Good → Fits ds f s ts
-fits ds f s ts e = kind_fits ds f s ts (kind_of f) e
+pub fits : (ds : List Declaration) (f : Sym) (s : Sort) (ts : List Sort) → head_mark ds f s ts ≡ Good → Fits ds f s ts
+fits ds f s ts e = kind_fits ds f s ts (kind_of f) (worse-parts (sort_mark ds s) (symbol_mark ds f s ts) e).1
 
 -- the sorts of the arguments
 
@@ -150,21 +151,21 @@ trees_at-extends ts us (e ∷ es) x h =
 -- the sides of some lines
 
 -- the mark, told of the left sides
-pub sides_fit : (b : Book) (ls rs : List ExprId) (is : List ℕ) (f : Sym) (s : Sort) → AreSides b ls rs is → symbol_mark b.base f s (sorts_of (lefts_at b is)) ≡ Good → Fits b.base f s (sorts_at b.trees ls)
-sides_fit b ls rs is f s h e = fits b.base f s (sorts_at b.trees ls) (subst (λ ts. symbol_mark b.base f s ts ≡ Good) ((λ i. sorts_of (of_list (sym h.left i))) ∙ sorts_at-list b.trees ls) e)
+pub sides_fit : (b : Book) (ls rs : List ExprId) (is : List ℕ) (f : Sym) (s : Sort) → AreSides b ls rs is → head_mark b.base f s (sorts_of (lefts_at b is)) ≡ Good → Fits b.base f s (sorts_at b.trees ls)
+sides_fit b ls rs is f s h e = fits b.base f s (sorts_at b.trees ls) (subst (λ ts. head_mark b.base f s ts ≡ Good) ((λ i. sorts_of (of_list (sym h.left i))) ∙ sorts_at-list b.trees ls) e)
 
-pub left_arity : (b : Book) (ls rs : List ExprId) (is : List ℕ) (f : Sym) (s : Sort) → AreSides b ls rs is → symbol_mark b.base f s (sorts_of (lefts_at b is)) ≡ Good → arity_fits f (length ls) ≡ true
+pub left_arity : (b : Book) (ls rs : List ExprId) (is : List ℕ) (f : Sym) (s : Sort) → AreSides b ls rs is → head_mark b.base f s (sorts_of (lefts_at b is)) ≡ Good → arity_fits f (length ls) ≡ true
 left_arity b ls rs is f s h e = subst (λ n. arity_fits f n ≡ true) (length-map ls (λ x. sort_of_tree (tree_of b.trees x))) (sides_fit b ls rs is f s h e).arity
 
-pub left_sorts : (b : Book) (ls rs : List ExprId) (is : List ℕ) (f : Sym) (s : Sort) → AreSides b ls rs is → symbol_mark b.base f s (sorts_of (lefts_at b is)) ≡ Good → sorts_fit f s (sorts_at b.trees ls) ≡ true
+pub left_sorts : (b : Book) (ls rs : List ExprId) (is : List ℕ) (f : Sym) (s : Sort) → AreSides b ls rs is → head_mark b.base f s (sorts_of (lefts_at b is)) ≡ Good → sorts_fit f s (sorts_at b.trees ls) ≡ true
 left_sorts b ls rs is f s h e = (sides_fit b ls rs is f s h e).sorts
 
-pub right_arity : (b : Book) (ls rs : List ExprId) (is : List ℕ) (f : Sym) (s : Sort) → AreSides b ls rs is → symbol_mark b.base f s (sorts_of (lefts_at b is)) ≡ Good → arity_fits f (length rs) ≡ true
+pub right_arity : (b : Book) (ls rs : List ExprId) (is : List ℕ) (f : Sym) (s : Sort) → AreSides b ls rs is → head_mark b.base f s (sorts_of (lefts_at b is)) ≡ Good → arity_fits f (length rs) ≡ true
 right_arity b ls rs is f s h e =
     let same : length ls ≡ length rs = sym (length-map ls (λ x. sort_of_tree (tree_of b.trees x))) ∙ ap length (sym h.sorts) ∙ length-map rs (λ x. sort_of_tree (tree_of b.trees x)) in
     subst (λ n. arity_fits f n ≡ true) same (left_arity b ls rs is f s h e)
 
-pub right_sorts : (b c : Book) (ls rs : List ExprId) (is : List ℕ) (f : Sym) (s : Sort) → AreSides b ls rs is → symbol_mark b.base f s (sorts_of (lefts_at b is)) ≡ Good → KeepsLines b c
+pub right_sorts : (b c : Book) (ls rs : List ExprId) (is : List ℕ) (f : Sym) (s : Sort) → AreSides b ls rs is → head_mark b.base f s (sorts_of (lefts_at b is)) ≡ Good → KeepsLines b c
     → sorts_fit f s (sorts_at c.trees rs) ≡ true
 right_sorts b c ls rs is f s h e k =
     subst (λ ts. sorts_fit f s ts ≡ true) (sym (sorts_at-extends b.trees c.trees rs k.trees h.rights_in ∙ h.sorts)) (left_sorts b ls rs is f s h e)
@@ -202,14 +203,14 @@ equations_of_facts : (b : Book) (is : List ℕ) → all_equations (facts_at b is
 equations_of_facts b [] = refl
 equations_of_facts b (i ∷ is) = equations_of_facts b is
 
-pub cong_good : (b : Book) (f : Sym) (s : Sort) (is : List ℕ) → All (IsEquation b) is → symbol_mark b.base f s (sorts_of (lefts_at b is)) ≡ Good
+pub cong_good : (b : Book) (f : Sym) (s : Sort) (is : List ℕ) → All (IsEquation b) is → head_mark b.base f s (sorts_of (lefts_at b is)) ≡ Good
     → conclude (theory_of b) b.done (Cong f is) ≡ Ok (equal (App f s (lefts_at b is)) (App f s (rights_at b is)))
 cong_good b f s is h e =
     let g = fits b.base f s (sorts_of (lefts_at b is)) e in
     rw (g.name, all_there b is h, lefts_of_facts b is, rights_of_facts b is, equations_of_facts b is, g.value, e) refl
 
 -- the same, after new trees
-pub cong_line : (a b : Book) (f : Sym) (s : Sort) (is ns : List ℕ) (st : Statement) → KeepsLines a b → All (IsEquation a) is → symbol_mark a.base f s (sorts_of (lefts_at a is)) ≡ Good
+pub cong_line : (a b : Book) (f : Sym) (s : Sort) (is ns : List ℕ) (st : Statement) → KeepsLines a b → All (IsEquation a) is → head_mark a.base f s (sorts_of (lefts_at a is)) ≡ Good
     → ns ≡ is → st ≡ equal (App f s (lefts_at a is)) (App f s (rights_at a is)) → conclude (theory_of b) b.done (Cong f ns) ≡ Ok st
 cong_line a b f s is ns st k h e n t =
     (λ i. conclude (record { declarations = k.base i }) (k.done i) (Cong f (n i))) ∙ cong_good a f s is h e ∙ ap Ok (sym t)

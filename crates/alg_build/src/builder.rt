@@ -6,7 +6,7 @@ ghost use Rattle.alg_expr.specs.Applying.{sorts_at, arity_fits, sorts_fit};
 ghost use Rattle.alg_law.specs.declared.classes.Class.TheVariants.{Semiring};
 ghost use Rattle.alg_law.specs.declared.marks.Mark.TheVariants.{Good};
 ghost use Rattle.alg_law.specs.Having.{has_class};
-ghost use Rattle.alg_law.specs.WellSorted.{IsWellSorted, sort_mark, symbol_mark, sorts_of};
+ghost use Rattle.alg_law.specs.WellSorted.{IsWellSorted, sort_mark, head_mark, sorts_of};
 ghost use Rattle.alg_proof.specs.Steps.{conclude, line_at, Refl, Symm, Trans, Cong, LitAdd, LitMul};
 ghost use Rattle.alg_proof.specs.Lines.{step_of, steps_of, IsLineIn};
 ghost use Rattle.alg_proof.specs.Valid.{IsValid};
@@ -281,7 +281,7 @@ impl Builder {
     /// `f(a..) = f(b..)`, where the lines of these numbers conclude `a = b` for each argument.
     pub fn cong(&mut self, sym: Sym, sort: Sort, parts: &[usize]) -> Result<usize, Memory>
         requires equations { All (IsEquation self.old) parts.now }
-        requires fits { symbol_mark self.old.base sym sort (sorts_of (lefts_at self.old parts.now)) ≡ Good }
+        requires fits { head_mark self.old.base sym sort (sorts_of (lefts_at self.old parts.now)) ≡ Good }
         ensures adds { IfOk result (λ k. Adds self.old self.new k (Cong sym parts.now) (equal (App sym sort (lefts_at self.old parts.now)) (App sym sort (rights_at self.old parts.now)))) }
         ensures err { OnErr result (KeepsLines self.old self.new) }
     {
@@ -293,7 +293,7 @@ impl Builder {
     // the symbol over the left sides of these lines equals the symbol over their right sides
     fn applied(&mut self, sym: Sym, sort: Sort, parts: &[usize]) -> Result<Stmt, Memory>
         requires equations { All (IsEquation self.old) parts.now }
-        requires fits { symbol_mark self.old.base sym sort (sorts_of (lefts_at self.old parts.now)) ≡ Good }
+        requires fits { head_mark self.old.base sym sort (sorts_of (lefts_at self.old parts.now)) ≡ Good }
         ensures here { IfOk result (λ s. IsStatementIn self.new.trees s) }
         ensures statement { IfOk result (λ s. statement_of self.new.trees s ≡ equal (App sym sort (lefts_at self.old parts.now)) (App sym sort (rights_at self.old parts.now))) }
         ensures keeps { KeepsLines self.old self.new }

@@ -12,7 +12,7 @@ use Rattle.alg_law.specs.declared.classes.Class.TheVariants.{AddMonoid, Monoid, 
 use Rattle.alg_law.specs.declared.marks.Mark.TheVariants.{Good}
 use Rattle.alg_law.specs.Declarations.{Declaration}
 use Rattle.alg_law.specs.Having.{has_class}
-use Rattle.alg_law.specs.WellSorted.{mark_of, class_mark, symbol_mark, sorts_of}
+use Rattle.alg_law.specs.WellSorted.{mark_of, class_mark, head_mark, sorts_of}
 use Rattle.alg_proof.specs.Steps.{Step}
 use Rattle.alg_build.specs.Book.{Book, Adds, Proves, IsEquation, Grows, left_at, right_at, lefts_at, rights_at}
 use Rattle.alg_build.proofs.Lines.{adds-proves, adds-grows, grows-then, grows-proves, proves-equation, proves-left, proves-right}
@@ -67,10 +67,10 @@ module _ (b : Book) (x y : Tree) (m n i j : ℕ) (left : IsNumber b x m i) (righ
   right_sort : sort_of_tree (left_at b j) ≡ Nat
   right_sort = ap sort_of_tree (proves-left b j y (Lit Nat n) right.proves) ∙ value-nat y n right.value
 
-  pub sum_fits : symbol_mark b.base Add Nat (sorts_of (lefts_at b (i ∷ j ∷ []))) ≡ Good
+  pub sum_fits : head_mark b.base Add Nat (sorts_of (lefts_at b (i ∷ j ∷ []))) ≡ Good
   sum_fits = rw (left_sort, right_sort) refl
 
-  pub product_fits : symbol_mark b.base Mul Nat (sorts_of (lefts_at b (i ∷ j ∷ []))) ≡ Good
+  pub product_fits : head_mark b.base Mul Nat (sorts_of (lefts_at b (i ∷ j ∷ []))) ≡ Good
   product_fits = rw (left_sort, right_sort) refl
 
 -- the parts, then the law, then both together
