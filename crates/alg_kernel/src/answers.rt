@@ -8,14 +8,11 @@ use std::alloc::AllocFailed;
 use thiserror::Error;
 
 /// Why a list of lines is refused.
-#[derive(Clone, Copy, Debug, Drop, Error)]
+#[derive(Clone, Copy, Debug, PartialEq, Eq, Drop, Error)]
 pub enum Refusal {
     /// The first bad line, counted from 1, and its first cause.
     #[error("line {line} is bad")]
-    Bad {
-        line: usize,
-        cause: BadCause,
-    },
+    Bad { line: usize, cause: BadCause },
     /// All lines are good, and the last doesn't conclude the goal, or there is none.
     #[error("the last line is not the goal")]
     WrongEnd,

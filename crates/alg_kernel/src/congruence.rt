@@ -53,7 +53,14 @@ pub(crate) fn cong(base: &Base, arena: &mut Arena, sym: Sym, parts: &[Stmt]) -> 
 }
 
 // the same, with the ids of both sides of the premises
-fn over_sides(base: &Base, arena: &mut Arena, sym: Sym, parts: &[Stmt], lefts: &[ExprId], rights: &[ExprId]) -> Result<Stmt, Fault>
+fn over_sides(
+    base: &Base,
+    arena: &mut Arena,
+    sym: Sym,
+    parts: &[Stmt],
+    lefts: &[ExprId],
+    rights: &[ExprId],
+) -> Result<Stmt, Fault>
     requires here { All (IsStatementIn arena.old) parts.now }
     requires fine { AllFine base.now None (statements_of arena.old parts.now) }
     requires left_ids { lefts.now ≡ left_ids parts.now }
@@ -74,7 +81,13 @@ fn over_sides(base: &Base, arena: &mut Arena, sym: Sym, parts: &[Stmt], lefts: &
 }
 
 // the equation of a symbol over these trees with the same symbol over those
-fn both(arena: &mut Arena, sym: Sym, sort: Sort, lefts: &[ExprId], rights: &[ExprId]) -> Result<Stmt, Memory>
+fn both(
+    arena: &mut Arena,
+    sym: Sym,
+    sort: Sort,
+    lefts: &[ExprId],
+    rights: &[ExprId],
+) -> Result<Stmt, Memory>
     requires left_in { All (IsIn arena.old) lefts.now }
     requires right_in { All (IsIn arena.old) rights.now }
     requires left_arity { arity_fits sym (length lefts.now) ≡ true }

@@ -71,7 +71,12 @@ impl Kernel {
 }
 
 // the mark of the names, sorts and trees that the line itself names
-fn first_look(marks: &mut Vec<Mark>, base: &Base, arena: &Arena, line: &Line) -> Result<Mark, Memory>
+fn first_look(
+    marks: &mut Vec<Mark>,
+    base: &Base,
+    arena: &Arena,
+    line: &Line,
+) -> Result<Mark, Memory>
     requires marked { HasMarks base.now arena.now marks.old.items }
     requires line_in { IsLineIn arena.now line.now }
     ensures ok { IfOk result (λ m. m ≡ step_mark base.now (step_of arena.now line.now)) }
@@ -126,7 +131,13 @@ fn same_statement(arena: &Arena, a: &Stmt, b: &Stmt) -> bool
 /// Checks that the lines prove the goal under the base. `Bad` names the first bad line, counted from 1, with its
 /// first cause; `WrongEnd` comes where all lines are good and the last isn't the goal, or there is none. The arena
 /// keeps its trees and grows by those that the lines conclude.
-pub fn accept(alloc: Global, base: &Base, arena: &mut Arena, goal: Stmt, lines: &[Line]) -> Result<Checked, Refusal>
+pub fn accept(
+    alloc: Global,
+    base: &Base,
+    arena: &mut Arena,
+    goal: Stmt,
+    lines: &[Line],
+) -> Result<Checked, Refusal>
     requires goal_in { IsStatementIn arena.old goal }
     requires lines_in { All (IsLineIn arena.old) lines.now }
     ensures keeps { Extends arena.old arena.new }

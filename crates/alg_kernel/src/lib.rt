@@ -1,8 +1,8 @@
 //! The trusted checker: a list of proof lines is accepted exactly where it is valid and ends in the goal.
 #![tactic(auto)]
 
-mod congruence;
 pub mod answers;
+mod congruence;
 pub mod kernel;
 mod rules;
 

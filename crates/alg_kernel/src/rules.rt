@@ -5,6 +5,8 @@ ghost use Rattle.alg_terms.specs.Order.{tree_same};
 ghost use Rattle.alg_expr.specs.Ids.{tree_of, trees_at, IsIn, statement_of, statements_of, IsStatementIn};
 ghost use Rattle.alg_expr.specs.Arena.{Extends, GrowsBy};
 ghost use Rattle.alg_expr.specs.Applying.{arity_fits, sorts_fit, sorts_at};
+ghost use Rattle.alg_law.specs.Having.{has_class};
+ghost use Rattle.alg_law.specs.declared.classes.Class.TheVariants as class;
 ghost use Rattle.alg_proof.specs.Steps.{line_at, is_eq_rel, symm_of, trans_of, sum_of, product_of};
 ghost use Rattle.alg_kernel.specs.Answers.{IsJudged, IsFound};
 
@@ -65,6 +67,7 @@ pub(crate) fn equation(arena: &Arena, lhs: ExprId, rhs: ExprId) -> Stmt
     }
 }
 
+/// `b = a`, from `a = b`.
 pub(crate) fn symm(arena: &Arena, a: &Stmt) -> Result<Stmt, Fault>
     requires { IsStatementIn arena.now a.now }
     ensures { IsJudged arena.now result (symm_of (statement_of arena.now a.now)) }
@@ -76,6 +79,7 @@ pub(crate) fn symm(arena: &Arena, a: &Stmt) -> Result<Stmt, Fault>
     }
 }
 
+/// `a = c`, from `a = b` and `b = c`.
 pub(crate) fn trans(arena: &Arena, a: &Stmt, b: &Stmt) -> Result<Stmt, Fault>
     requires left { IsStatementIn arena.now a.now }
     requires right { IsStatementIn arena.now b.now }
@@ -92,7 +96,12 @@ pub(crate) fn trans(arena: &Arena, a: &Stmt, b: &Stmt) -> Result<Stmt, Fault>
 }
 
 /// A symbol over arguments that it takes.
-pub(crate) fn build(arena: &mut Arena, sym: Sym, sort: Sort, args: &[ExprId]) -> Result<ExprId, Memory>
+pub(crate) fn build(
+    arena: &mut Arena,
+    sym: Sym,
+    sort: Sort,
+    args: &[ExprId],
+) -> Result<ExprId, Memory>
     requires here { All (IsIn arena.old) args.now }
     requires arity { arity_fits sym (length args.now) ≡ true }
     requires sorts { sorts_fit sym sort (sorts_at arena.old args.now) ≡ true }
@@ -108,7 +117,14 @@ pub(crate) fn build(arena: &mut Arena, sym: Sym, sort: Sort, args: &[ExprId]) ->
 }
 
 // the equation of a symbol over two literals with a third
-fn literals(arena: &mut Arena, sym: Sym, sort: Sort, m: u128, n: u128, value: u128) -> Result<Stmt, Memory>
+fn literals(
+    arena: &mut Arena,
+    sym: Sym,
+    sort: Sort,
+    m: u128,
+    n: u128,
+    value: u128,
+) -> Result<Stmt, Memory>
     requires left { m < 2 ^ 127 }
     requires right { n < 2 ^ 127 }
     requires value { value < 2 ^ 127 }
@@ -125,11 +141,25 @@ fn literals(arena: &mut Arena, sym: Sym, sort: Sort, m: u128, n: u128, value: u1
     Ok(equation(arena, whole, value))
 }
 
-pub(crate) fn sum(base: &Base, arena: &mut Arena, sort: Sort, m: u128, n: u128) -> Result<Stmt, Fault>
+// the class that sums and products of literals need
+fn is_semiring(base: &Base, sort: Sort) -> bool
+    ensures { result ≡ has_class base.now sort class.Semiring }
+{
+    has(base, sort, Class::Semiring)
+}
+
+/// `m + n = r`, with the literal r that is the sum.
+pub(crate) fn sum(
+    base: &Base,
+    arena: &mut Arena,
+    sort: Sort,
+    m: u128,
+    n: u128,
+) -> Result<Stmt, Fault>
     ensures keeps { Extends arena.old arena.new }
     ensures judged { IsJudged arena.new result (sum_of base.now sort m n) }
 {
-    if !has(base, sort, Class::Semiring) {
+    if !is_semiring(base, sort) {
         return Err(Fault::Bad(BadCause::NoInstance));
     }
     if m > LIMIT || n > LIMIT || m + n > LIMIT {
@@ -138,11 +168,18 @@ pub(crate) fn sum(base: &Base, arena: &mut Arena, sort: Sort, m: u128, n: u128) 
     Ok(literals(arena, Sym::Add, sort, m, n, m + n)?)
 }
 
-pub(crate) fn product(base: &Base, arena: &mut Arena, sort: Sort, m: u128, n: u128) -> Result<Stmt, Fault>
+/// `m * n = r`, with the literal r that is the product.
+pub(crate) fn product(
+    base: &Base,
+    arena: &mut Arena,
+    sort: Sort,
+    m: u128,
+    n: u128,
+) -> Result<Stmt, Fault>
     ensures keeps { Extends arena.old arena.new }
     ensures judged { IsJudged arena.new result (product_of base.now sort m n) }
 {
-    if !has(base, sort, Class::Semiring) {
+    if !is_semiring(base, sort) {
         return Err(Fault::Bad(BadCause::NoInstance));
     }
     if m > LIMIT || n > LIMIT {

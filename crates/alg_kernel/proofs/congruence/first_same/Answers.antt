@@ -18,5 +18,5 @@ loop-i-preserved c =
       same =
           rw add-one
           (sym (same-next c.args.arena.now c.args.places.now c.args.args.now c.loop-i.i Same (record { index = 0 }) c.loop-i-test.true (omega arith) (search rules))
-           ∙ c.loop-i.invariant.same);
+          ∙ c.loop-i.invariant.same);
     }

@@ -39,6 +39,8 @@ both-requires-clause-right_sorts c =
     c.pass.ensures c.in_ok-pass-in-Some.was c.requires.fine
 
 pub returns-in_ok-both-in-Some-clause-judged : goal.returns-in_ok-both-in-Some-clause-judged
-returns-in_ok-both-in-Some-clause-judged c =
-    (c.in_ok-both-in-Some.ensures.here, cong-good c.args.base.now c.args.arena.now c.args.sym c.args.parts.now c.args.lefts.now c.args.rights.now c.requires.left_ids c.requires.right_ids c.in-Some.sort c.mark_for_head.result c.pass.result c.in_ok-pass-in-Some.field-0 c.in-Some.ensures c.mark_for_head.ensures
-     c.pass.ensures c.in_ok-pass-in-Some.was c.are_equations.result _ c.are_equations.ensures (search rules) c.in_ok-both-in-Some.ensures.equation)
+returns-in_ok-both-in-Some-clause-judged c = (
+  c.in_ok-both-in-Some.ensures.here,
+  cong-good c.args.base.now c.args.arena.now c.args.sym c.args.parts.now c.args.lefts.now c.args.rights.now c.requires.left_ids c.requires.right_ids c.in-Some.sort c.mark_for_head.result c.pass.result c.in_ok-pass-in-Some.field-0 c.in-Some.ensures c.mark_for_head.ensures
+      c.pass.ensures c.in_ok-pass-in-Some.was c.are_equations.result _ c.are_equations.ensures (search rules) c.in_ok-both-in-Some.ensures.equation,
+)

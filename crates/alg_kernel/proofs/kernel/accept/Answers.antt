@@ -20,5 +20,5 @@ pub returns-clause-derivable : goal.returns-clause-derivable
 returns-clause-derivable c =
     accepted-derivable c.args.base.now (steps_of c.args.arena.now c.args.lines.now) (statement_of c.args.arena.now c.args.goal) c.finish.result
     (subst (GivesVerdict c.finish.result)
-     (sym (IsSoFar-end (record { declarations = c.args.base.now }) c.args.arena.now c.loop-i.arena c.args.goal c.args.lines.now c.loop-i.kernel c.loop-i.i c.loop-i.invariant c.loop-i-test.false c.requires.goal_in))
-     (c.finish.ensures.verdict (record { declarations = c.args.base.now })))
+    (sym (IsSoFar-end (record { declarations = c.args.base.now }) c.args.arena.now c.loop-i.arena c.args.goal c.args.lines.now c.loop-i.kernel c.loop-i.i c.loop-i.invariant c.loop-i-test.false c.requires.goal_in))
+    (c.finish.ensures.verdict (record { declarations = c.args.base.now })))
