@@ -5,6 +5,8 @@ pub mod answers;
 mod congruence;
 pub mod kernel;
 mod rules;
+#[cfg(test)]
+mod tests;
 
 pub use alg_terms::BadCause;
 pub use answers::{Checked, Refusal};
