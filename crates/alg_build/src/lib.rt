@@ -8,3 +8,6 @@ pub use alg_expr::Memory;
 pub use alg_proof::Line;
 pub use builder::{Builder, Parts};
 pub use outcome::{Outcome, TacFault};
+
+#[cfg(test)]
+mod tests;
