@@ -10,6 +10,7 @@ mod trees;
 mod words;
 mod work;
 
+pub use alg_host::{Failed, Host, LoadFault, MemoryHost, RealHost};
 pub use program::{Extensions, run};
 pub use status::Status;
 

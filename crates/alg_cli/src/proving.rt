@@ -11,7 +11,7 @@ use crate::trees::sum;
 use alg_build::{Builder, Outcome, Parts, TacFault};
 use alg_expr::{Memory, Rel, Sort, Stmt};
 use alg_goal_line::{Goal, read_goal};
-use alg_kernel::{Checked, accept};
+use alg_kernel::{Checked, Refusal, accept};
 use alg_law::Base;
 use alg_normnum::norm_num;
 use std::alloc::Global;
@@ -29,7 +29,7 @@ fn state(cx: &mut Builder, goal: &Goal) -> Result<Stmt, Memory>
     })
 }
 
-// The kernel accepts the lines up to the one that concludes the goal.
+// The kernel accepts the lines up to the one that concludes the goal; it never refuses them.
 fn check(alloc: Global, mut cx: Builder, goal: Stmt, line: usize) -> Result<Checked, Memory>
     requires here { IsStatementIn cx.trees goal }
     requires line_here { line ≤ length cx.done }
@@ -44,7 +44,8 @@ fn check(alloc: Global, mut cx: Builder, goal: Stmt, line: usize) -> Result<Chec
     } = cx.into_parts();
     match accept(alloc, &base, &mut arena, goal, &lines) {
         Ok(checked) => Ok(checked),
-        Err(_) => Err(Memory),
+        Err(Refusal::Memory) => Err(Memory),
+        Err(_) => unreachable!(),
     }
 }
 
@@ -62,7 +63,8 @@ pub(crate) fn prove_goal(alloc: Global, goal: &Goal) -> Result<Entry, Memory>
         }
         Err(TacFault::OutOfRange) => Ok(Entry::Failed(Fault::OutOfRange)),
         Err(TacFault::GoalFalse) => Ok(Entry::Failed(Fault::GoalIsFalse)),
-        Err(_) => Err(Memory),
+        Err(TacFault::Memory) => Err(Memory),
+        Err(_) => unreachable!(),
     }
 }
 
