@@ -1,5 +1,5 @@
 -- Trees of numerals, made one after another.
-use Rattle.std.proofs.Common.{◌≡◌, ℕ, ◌+◌, ◌-◌, ◌^◌, ◌<◌, ◌≤◌, List, [], ◌∷◌, ◌++◌, length, get_or, take, drop, All, refl, ap, sym, ◌∙◌, subst, arith, length-drop, true}
+use Rattle.std.proofs.Common.{◌≡◌, ℕ, ◌+◌, ◌-◌, ◌^◌, ◌<◌, List, [], ◌∷◌, length, get_or, take, drop, All, refl, ap, sym, ◌∙◌, subst, arith, length-drop, true}
 use Rattle.std.specs.Prelude.{Result, Ok, Err, IfOk, fold}
 use Rattle.std.proofs.lemmas.List.Elements.{All-cons, All-nil, All-take, All-drop}
 use Rattle.std.proofs.lemmas.List.{take_all}
@@ -10,7 +10,7 @@ use Rattle.alg_expr.specs.Applying.{sorts_at, sorts_fit}
 use Rattle.alg_terms.specs.Tree.{Tree, Lit, sort_of_tree, sum_tree, product_tree}
 use Rattle.alg_expr.specs.declared.ids.ExprId.{ExprId}
 use Rattle.alg_expr.specs.Ids.{tree_of, IsIn}
-use Rattle.alg_expr.specs.Arena.{Extends, Extends-self, Extends-then, IsIn-extends, tree_of-extends}
+use Rattle.alg_expr.specs.Arena.{Extends-self, Extends-then, IsIn-extends, tree_of-extends}
 use Rattle.alg_build.specs.Book.{Book, KeepsLines, Makes}
 use Rattle.alg_normnum.specs.Goals.{IsNumeral, literal, sum, product}
 use Rattle.alg_cli.specs.Trees.{times, plus, product_of, sum_of, MakesNumeral, States}

@@ -1,8 +1,8 @@
 -- How far a run has come, after one part of its plan and then another.
-use Rattle.std.proofs.Common.{◌≡◌, ℕ, List, [], ◌∷◌, ◌++◌, refl, ap, sym, ◌∙◌, append_assoc, append-nil, Some, None, inl, inr, subst}
-use Rattle.std.specs.Prelude.{◌⊎◌, Option, Result, OnOk, Ok, Err, IsErr}
-use Rattle.alg_host.specs.Host.{Told, IsPrefix}
-use Rattle.alg_cli.specs.Plan.{Effects, Does, after, and_then, nothing, says, Event, Says, effect_of, effects_of, IsPart, Reached, Did}
+use Rattle.std.proofs.Common.{◌≡◌, List, [], ◌∷◌, ◌++◌, refl, ap, sym, ◌∙◌, append_assoc, inl, inr, subst}
+use Rattle.std.specs.Prelude.{Option, Result, OnOk, Ok, Err, IsErr}
+use Rattle.alg_host.specs.Host.{Told}
+use Rattle.alg_cli.specs.Plan.{Effects, Does, and_then, nothing, Event, Says, effect_of, effects_of, IsPart, Reached, Did}
 use Rattle.alg_cli.proofs.Doing.{does_then, does_nothing}
 
 then_assoc : (c d e : Effects) → and_then (and_then c d) e ≡ and_then c (and_then d e)

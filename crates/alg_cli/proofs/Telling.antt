@@ -1,6 +1,6 @@
 -- What the top call tells, from what its parts did.
 use Rattle.std.proofs.Common.{◌≡◌, ℕ, ◌<◌, ◌≤◌, List, [], ◌∷◌, ◌++◌, length, refl, ap, sym, ◌∙◌, Bool, true, false, append_assoc, append-nil, Some, None, inl, inr, arith}
-use Rattle.std.specs.Prelude.{◌⊎◌, Option, Result, OnOk, Ok, Err, IsErrOf, IsTrue, ◌↔◌, IfSome, IsSomeAnd}
+use Rattle.std.specs.Prelude.{Option, Result, Ok, Err, IsErrOf, IsTrue, ◌↔◌, IfSome, IsSomeAnd}
 use Rattle.std.specs.Option.{option_map}
 use Rattle.alg_host.specs.Host.{Told, Loads, IsPrefix, HasRisen, called}
 use Rattle.alg_host.specs.declared.host.LoadFault.{LoadFault}
@@ -8,7 +8,7 @@ use Rattle.alg_host.specs.declared.host.LoadFault.TheVariants as load
 use Rattle.alg_cli.specs.Plan.{Effects, after, Event, Says, effect_of, effects_of, IsPart, Reached, Did, events_of_all, plan_of}
 use Rattle.alg_cli.specs.Report.{Finding, entry_text, entry_texts, findings_of, last_line_of, report_of, IsAllClosed}
 use Rattle.alg_cli.specs.Job.{Job, Usage, Prove}
-use Rattle.alg_cli.specs.Run.{Between, Answers, Loaded, Reported, Begun, Quiet, Refused, TooLong, IsReady, IsDone, most_bytes}
+use Rattle.alg_cli.specs.Run.{Between, Answers, Begun, IsReady, IsDone, most_bytes}
 use Rattle.alg_cli.specs.declared.status.Status.{Status}
 use Rattle.alg_cli.specs.declared.status.Status.TheVariants as status
 

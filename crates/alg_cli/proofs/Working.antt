@@ -1,19 +1,18 @@
 -- The work on the lines so far, on one more, and on the rest.
-use Rattle.std.proofs.Common.{◌≡◌, ℕ, ◌+◌, ◌-◌, ◌^◌, ◌<◌, ◌≤◌, List, [], ◌∷◌, ◌++◌, length, refl, ap, sym, ◌∙◌, append_assoc, append-nil, add-zero, subst, Ok, Some, None, arith, cond, Bool, true, false}
+use Rattle.std.proofs.Common.{◌≡◌, ℕ, ◌+◌, ◌^◌, ◌≤◌, List, [], ◌∷◌, ◌++◌, length, refl, ap, sym, ◌∙◌, append_assoc, append-nil, add-zero, Ok, Some, None, arith, cond}
 use Rattle.std.specs.Prelude.{Option, Result, IsErr}
 use Rattle.std.specs.Borrow.{Bor}
-use Rattle.std.specs.List.{flat_map}
 use Rattle.std.proofs.lemmas.List.Sums.{sum_by-append}
 use Rattle.std.proofs.lemmas.Grind.{flat_map-append}
 use Rattle.alg_host.specs.Host.{Told}
-use Rattle.alg_cli.specs.Plan.{Event, Did, events_of, events_of_all, Says, plan_of}
-use Rattle.alg_cli.specs.Report.{Finding, findings_at, findings_from, findings_of, lines_of, tally_of, total_of, verdict_text, is_closed, is_failed, is_error, tally_text, last_line_of}
+use Rattle.alg_cli.specs.Plan.{Did, events_of, events_of_all, Says, plan_of}
+use Rattle.alg_cli.specs.Report.{Finding, findings_at, findings_from, findings_of, lines_of, tally_of, total_of, verdict_text, is_closed, is_failed, is_error, tally_text}
 use Rattle.alg_cli.specs.Verdict.{Verdict, Closed, Failed, Unsupported, verdict_of_line}
 use Rattle.alg_cli.specs.Entry.{plus, with_verdict}
 use Rattle.alg_cli.specs.Lines.{lines_left, bytes_left}
 use Rattle.alg_cli.specs.declared.entries.Tally.{Tally}
 use Rattle.alg_cli.specs.declared.work.Stop.{Stop}
-use Rattle.alg_cli.proofs.Reaching.{did_then, did_more, did_plan, did_ok, did_err}
+use Rattle.alg_cli.proofs.Reaching.{did_then, did_more, did_plan, did_ok}
 
 -- the lines before `number` are done, and `rest` is left
 pub record Progress (bytes : List ℕ) (before now : Option Told) (number : ℕ) (rest : Option (Bor (List ℕ))) (tally : Tally) : Type 0 where

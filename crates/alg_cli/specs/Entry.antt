@@ -1,5 +1,5 @@
 -- What an entry of the report says, and how it counts.
-use Rattle.std.specs.Prelude.{ℕ, ◌+◌}
+use Rattle.std.specs.Prelude.{◌+◌}
 use Rattle.alg_cli.specs.Verdict.{Verdict}
 use Rattle.alg_cli.specs.Verdict as verdict
 use Rattle.alg_cli.specs.declared.entries.Entry.{Entry}

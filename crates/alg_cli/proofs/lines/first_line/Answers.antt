@@ -1,4 +1,4 @@
-use Rattle.std.proofs.Common.{sym, ◌∙◌}
+use Rattle.std.proofs.Common.{sym}
 use Rattle.alg_cli.proofs.Reading.{lines_cut, lines_none}
 use Rattle.alg_cli.proofs.lines.first_line.Goals as goal
 

@@ -1,4 +1,3 @@
-use Rattle.std.proofs.Common.{refl}
 use Rattle.alg_cli.proofs.Telling.{no_load, no_memory_to_load, too_long, host_failed, no_memory, done}
 use Rattle.alg_cli.proofs.program.prove.Goals as goal
 

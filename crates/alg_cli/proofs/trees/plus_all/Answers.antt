@@ -1,7 +1,7 @@
 use Rattle.alg_cli.proofs.Making.{loop_next_at, at_item}
 use Rattle.alg_cli.specs.Trees.{plus}
 use Rattle.alg_expr.specs.Ids.{tree_of}
-use Rattle.std.proofs.Common.{◌<◌, ◌^◌, ◌∙◌, All, length, refl}
+use Rattle.std.proofs.Common.{◌<◌, ◌^◌, ◌∙◌, All, length}
 use Rattle.alg_cli.proofs.Making.{start_made, made_numeral}
 use Rattle.alg_cli.proofs.trees.plus_all.Goals as goal
 

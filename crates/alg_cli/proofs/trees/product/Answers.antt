@@ -1,5 +1,5 @@
 use Rattle.alg_cli.proofs.Making.{rest_of}
-use Rattle.std.proofs.Common.{◌<◌, ◌^◌, ◌∙◌, All, length, refl}
+use Rattle.std.proofs.Common.{◌<◌, ◌^◌, refl}
 use Rattle.alg_cli.proofs.Making.{whole_product, made_numeral}
 use Rattle.alg_cli.proofs.trees.product.Goals as goal
 

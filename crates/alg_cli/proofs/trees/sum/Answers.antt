@@ -1,6 +1,6 @@
 use Rattle.alg_cli.proofs.Making.{at_item, rest_of, whole_sum_at}
-use Rattle.std.proofs.Common.{◌<◌, ◌^◌, ◌∙◌, All, length, refl}
-use Rattle.alg_cli.proofs.Making.{whole_sum, made_numeral}
+use Rattle.std.proofs.Common.{◌<◌, ◌^◌, ◌∙◌, All, length}
+use Rattle.alg_cli.proofs.Making.{made_numeral}
 use Rattle.alg_cli.proofs.trees.sum.Goals as goal
 
 pub product-requires-clause-some : goal.product-requires-clause-some
