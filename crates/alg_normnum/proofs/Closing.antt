@@ -40,7 +40,7 @@ numeral_value _ (literal n l) = in_range-value n
 numeral_value _ (sum x y p q) = both-value (λ m n. m + n) (value x) (value y) (numeral_value x p) (numeral_value y q)
 numeral_value _ (product x y p q) = both-value (λ m n. m * n) (value x) (value y) (numeral_value x p) (numeral_value y q)
 
-numeral_sort : (t : Tree) → IsNumeral t → sort_of_tree t ≡ Nat
+pub numeral_sort : (t : Tree) → IsNumeral t → sort_of_tree t ≡ Nat
 numeral_sort _ (literal n l) = refl
 numeral_sort _ (sum x y p q) = refl
 numeral_sort _ (product x y p q) = refl

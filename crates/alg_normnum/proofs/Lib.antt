@@ -1,3 +1,4 @@
 pub mod Emit
 pub mod Nodes
 pub mod Closing
+pub mod Making

@@ -1,3 +1,4 @@
 pub mod Values
 pub mod Goals
 pub mod Found
+pub mod Made
