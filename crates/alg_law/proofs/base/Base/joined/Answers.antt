@@ -1,4 +1,4 @@
-use Rattle.std.proofs.Common.{◌≡◌, ◌++◌, ◌∙◌, List, ap, sym, subst, take}
+use Rattle.std.proofs.Common.{◌++◌, ◌∙◌, List, ap, sym, subst}
 use Rattle.alg_law.specs.Declarations.{Declaration, declarations_of}
 use Rattle.alg_law.specs.Following.{AllMayFollow}
 use Rattle.alg_law.proofs.KeepingLaws.{prefix-may_follow, prefix-kept}

@@ -1,4 +1,4 @@
-use Rattle.std.proofs.Common.{rules, ◌≡◌, subst, sym, ◌∙◌}
+use Rattle.std.proofs.Common.{rules}
 use Rattle.alg_law.proofs.KeepingLaws.{IsKept-extends, view-extends, view-push, IsKept-push}
 use Rattle.alg_law.proofs.base.Base.keep.Goals as goal
 
