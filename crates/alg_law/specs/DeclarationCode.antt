@@ -1,6 +1,5 @@
 -- Declarations as values of a model.
 use Rattle.std.specs.Prelude.{◌≡◌, ℕ, zero, suc, refl, List, []}
-use Rattle.std.proofs.Common.{ap}
 use Rattle.std.specs.Coded.{Coded, code_by, coded_ℕ, coded×, coded_list}
 use Rattle.alg_terms.specs.declared.sorts.Sort.{Sort}
 use Rattle.alg_terms.specs.declared.sorts.Sort.TheVariants.{Nat}

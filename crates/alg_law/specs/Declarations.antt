@@ -1,19 +1,14 @@
 -- Declarations, and those that the code keeps.
-use Rattle.std.specs.Prelude.{not, ◌≡◌, ℕ, zero, suc, ◌+◌, ◌<◌, Bool, true, false, ◌&&◌, ◌||◌, nat_eq, nat_lt, List, [], ◌∷◌, ◌++◌, get_or, refl, Contains, IsTrue, ◌↔◌, map, ⊤, length, All, Option, Some, None, slice_get}
-use Rattle.std.specs.String.{string_bytes}
-use Rattle.std.proofs.Common.{ap, sym, ◌∙◌, subst}
+use Rattle.std.specs.Prelude.{◌≡◌, ℕ, List, [], ◌∷◌, map, ⊤, Option, Some, None}
 use Rattle.alg_terms.specs.declared.sorts.Sort.{Sort}
-use Rattle.alg_terms.specs.declared.sorts.Sort.TheVariants.{Nat, Int, Rat, Decl}
-use Rattle.alg_terms.specs.Keys.{sort_key}
-use Rattle.alg_terms.specs.Tree.{Tree, Lit, Statement}
-use Rattle.alg_terms.specs.Order.{sort_same}
+use Rattle.alg_terms.specs.Tree.{Tree, Statement}
 use Rattle.alg_expr.specs.Ids.{statement_of, IsStatementIn}
-use Rattle.alg_expr.specs.declared.ids.Stmt.{Stmt}
 use Rattle.alg_law.specs.declared.classes.Class.{Class}
-use Rattle.alg_law.specs.declared.classes.Class.TheVariants.{Group, Semiring, CommSemiring, CommRing, Field, LinearOrder, CharZero, IsStrictOrderedRing}
 use Rattle.alg_law.specs.declared.declarations.Declared.{Declared}
 use Rattle.alg_law.specs.declared.declarations.Declared.TheVariants as declared
 
+-- a type variable, a class of one by its number, a variable with its sort, a function with its arguments' sorts and
+-- its value's, or a hypothesis; names are their bytes
 pub data Declaration : Type 0 where
   Carrier : List ℕ → Declaration
   Instance : ℕ → Class → Declaration
@@ -21,6 +16,7 @@ pub data Declaration : Type 0 where
   Function : List ℕ → List Sort → Sort → Declaration
   Hypothesis : List ℕ → Statement → Declaration
 
+-- the statement of a hypothesis before these, and nothing else
 abbrev pub with_hypothesis : Declaration → List Statement → List Statement
 with_hypothesis (Carrier n) hs = hs
 with_hypothesis (Instance k c) hs = hs
@@ -35,18 +31,29 @@ hypotheses (d ∷ ds) = with_hypothesis d (hypotheses ds)
 
 -- a declaration of the code, over the trees of an arena
 abbrev pub declaration_of : List Tree → Declared → Declaration
-declaration_of ts (declared.Carrier n) = Carrier (string_bytes n)
+declaration_of ts (declared.Carrier n) = Carrier n
 declaration_of ts (declared.Instance k c) = Instance k c
-declaration_of ts (declared.Variable n s) = Variable (string_bytes n) s
-declaration_of ts (declared.Function n ss s) = Function (string_bytes n) ss.items s
-declaration_of ts (declared.Hypothesis n h) = Hypothesis (string_bytes n) (statement_of ts h)
+declaration_of ts (declared.Variable n s) = Variable n s
+declaration_of ts (declared.Function n ss s) = Function n ss s
+declaration_of ts (declared.Hypothesis n h) = Hypothesis n (statement_of ts h)
 
+-- and a list of them
 abbrev pub declarations_of : List Tree → List Declared → List Declaration
 declarations_of ts ds = map (declaration_of ts) ds
 
+-- the trees of a declaration are of this arena
 abbrev pub IsDeclaredIn : List Tree → Declared → Type 0
 IsDeclaredIn ts (declared.Carrier n) = ⊤
 IsDeclaredIn ts (declared.Instance k c) = ⊤
 IsDeclaredIn ts (declared.Variable n s) = ⊤
 IsDeclaredIn ts (declared.Function n ss s) = ⊤
 IsDeclaredIn ts (declared.Hypothesis n h) = IsStatementIn ts h
+
+-- the declaration of the code tells this one, whose trees may be anywhere
+abbrev pub Tells : Declared → Declaration → Type 0
+Tells d e = (ts : List Tree) × IsDeclaredIn ts d × (declaration_of ts d ≡ e)
+
+-- the declaration that stands there, as this one of the code tells it in some arena
+abbrev pub TellsAt : Declared → Option Declaration → Type 0
+TellsAt d None = ⊥
+TellsAt d (Some e) = Tells d e

@@ -1,9 +1,9 @@
 -- Derivations: Birkhoff's equational logic with relations and premises.
-use Rattle.std.specs.Prelude.{◌≡◌, ◌<◌, ℕ, suc, List, [], ◌∷◌, map, Option, Some, Contains, true, ◌||◌}
+use Rattle.std.specs.Prelude.{◌≡◌, ℕ, suc, List, [], ◌∷◌, map, Option, Some, Contains, true, ◌||◌}
 use Rattle.alg_terms.specs.declared.sorts.Sort.{Sort}
 use Rattle.alg_terms.specs.declared.sorts.Sort.TheVariants.{Nat, Int}
 use Rattle.alg_terms.specs.declared.symbols.Sym.{Sym}
-use Rattle.alg_terms.specs.declared.symbols.Sym.TheVariants.{Add, Mul, Nsmul, Zsmul, Npow, Zpow}
+use Rattle.alg_terms.specs.declared.symbols.Sym.TheVariants.{Nsmul, Zsmul, Npow, Zpow}
 use Rattle.alg_terms.specs.declared.relations.Rel.{Rel}
 use Rattle.alg_terms.specs.declared.relations.Rel.TheVariants.{Ne}
 use Rattle.alg_terms.specs.Tree.{Tree, Lit, App, Trees, Nil, Cons, Statement, sort_of_tree, equal, sum_tree, product_tree}

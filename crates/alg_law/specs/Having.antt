@@ -1,18 +1,8 @@
 -- The classes that a sort has under declarations.
-use Rattle.std.specs.Prelude.{not, ◌≡◌, ℕ, zero, suc, ◌+◌, ◌<◌, Bool, true, false, ◌&&◌, ◌||◌, nat_eq, nat_lt, List, [], ◌∷◌, ◌++◌, get_or, refl, Contains, IsTrue, ◌↔◌, map, ⊤, length, All, Option, Some, None, slice_get}
-use Rattle.std.specs.String.{string_bytes}
-use Rattle.std.proofs.Common.{ap, sym, ◌∙◌, subst}
+use Rattle.std.specs.Prelude.{◌≡◌, ℕ, Bool, true, false, ◌&&◌, ◌||◌, nat_eq, List, [], ◌∷◌}
 use Rattle.alg_terms.specs.declared.sorts.Sort.{Sort}
 use Rattle.alg_terms.specs.declared.sorts.Sort.TheVariants.{Nat, Int, Rat, Decl}
-use Rattle.alg_terms.specs.Keys.{sort_key}
-use Rattle.alg_terms.specs.Tree.{Tree, Lit, Statement}
-use Rattle.alg_terms.specs.Order.{sort_same}
-use Rattle.alg_expr.specs.Ids.{statement_of, IsStatementIn}
-use Rattle.alg_expr.specs.declared.ids.Stmt.{Stmt}
 use Rattle.alg_law.specs.declared.classes.Class.{Class}
-use Rattle.alg_law.specs.declared.classes.Class.TheVariants.{Group, Semiring, CommSemiring, CommRing, Field, LinearOrder, CharZero, IsStrictOrderedRing}
-use Rattle.alg_law.specs.declared.declarations.Declared.{Declared}
-use Rattle.alg_law.specs.declared.declarations.Declared.TheVariants as declared
 use Rattle.alg_law.specs.Classes.{implied_by, all_of, class_same, is_among, gives, own_classes}
 use Rattle.alg_law.specs.Declarations.{Declaration, Carrier, Instance, Variable, Function, Hypothesis}
 

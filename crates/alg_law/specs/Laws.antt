@@ -1,5 +1,5 @@
 -- The declared laws: the law_ofs of the classes as rows of patterns, and their instances.
-use Rattle.std.specs.Prelude.{◌≡◌, ℕ, Bool, true, ◌&&◌, List, [], ◌∷◌, ◌++◌, map, codes}
+use Rattle.std.specs.Prelude.{◌≡◌, ℕ, Bool, true, ◌&&◌, List, [], ◌∷◌, map, codes}
 use Rattle.alg_terms.specs.declared.sorts.Sort.{Sort}
 use Rattle.alg_terms.specs.declared.sorts.Sort.TheVariants.{Nat}
 use Rattle.alg_terms.specs.declared.symbols.Sym.{Sym}
@@ -11,11 +11,10 @@ use Rattle.alg_law.specs.declared.classes.Class.{Class}
 use Rattle.alg_law.specs.declared.classes.Class.TheVariants.{AddMonoid, AddCommMonoid, Monoid, Semiring}
 use Rattle.alg_law.specs.declared.laws.Need.{Need}
 use Rattle.alg_law.specs.declared.laws.Need.TheVariants as need
-use Rattle.alg_law.specs.declared.laws.PatSort.{PatSort}
 use Rattle.alg_law.specs.declared.laws.PatSort.TheVariants as of
 use Rattle.alg_law.specs.Declarations.{Declaration}
 use Rattle.alg_law.specs.Having.{has_class}
-use Rattle.alg_law.specs.WellSorted.{sort_mark, IsWellSorted, AreWellSorted}
+use Rattle.alg_law.specs.WellSorted.{sort_mark, AreWellSorted}
 use Rattle.alg_law.specs.declared.marks.Mark.TheVariants.{Good}
 use Rattle.alg_law.specs.Patterns.{Pat, Letter, PLit, PApp, PNil, PCons, PatStatement, letter_sort, occurring}
 

@@ -1,19 +1,17 @@
 -- When trees made of well sorted parts are well sorted.
-use Rattle.std.specs.Prelude.{◌≡◌, ℕ, Bool, true, false, if◌then◌else◌, nat_eq, List, [], ◌∷◌, refl, ◌&&◌, Some, None, slice_get, Option}
-use Rattle.std.proofs.Common.{ap, sym, ◌∙◌, subst}
+use Rattle.std.specs.Prelude.{◌≡◌, ℕ, Bool, true, false, if◌then◌else◌, nat_eq, List, [], ◌∷◌, refl, slice_get}
+use Rattle.std.proofs.Common.{ap}
 use Rattle.alg_terms.specs.declared.sorts.Sort.{Sort}
-use Rattle.alg_terms.specs.declared.symbols.Sym.{Sym}
 use Rattle.alg_terms.specs.declared.symbols.Sym.TheVariants.{Add, Mul}
-use Rattle.alg_terms.specs.Tree.{Tree, Lit, Var, App, Trees, Nil, Cons, sort_of_tree, sum_tree, product_tree}
-use Rattle.alg_terms.specs.Order.{sort_same, sort_same-self}
-use Rattle.alg_law.specs.declared.classes.Class.{Class}
+use Rattle.alg_terms.specs.Tree.{Tree, Lit, Var, App, sort_of_tree, sum_tree, product_tree}
+use Rattle.alg_terms.specs.Order.{sort_same-self}
 use Rattle.alg_law.specs.declared.classes.Class.TheVariants.{Semigroup, Monoid, AddMonoid, AddCommMonoid, Semiring}
 use Rattle.alg_law.specs.declared.marks.Mark.{Mark}
 use Rattle.alg_law.specs.declared.marks.Mark.TheVariants.{Good, NoInstance, BadSort, BadName}
 use Rattle.alg_law.specs.Declarations.{Declaration}
 use Rattle.alg_law.specs.Having.{has_class}
 use Rattle.alg_law.specs.HavingLaws.{has_class-implied}
-use Rattle.alg_law.specs.WellSorted.{worse, sort_mark, literal_class, class_mark, literal_mark, head_mark, symbol_mark, of_sort, variable_mark, variable_of, mark_of, marks_of, sorts_of, IsWellSorted, AreWellSorted}
+use Rattle.alg_law.specs.WellSorted.{worse, sort_mark, literal_class, class_mark, head_mark, symbol_mark, of_sort, variable_of, mark_of, marks_of, sorts_of, IsWellSorted}
 
 pub worse-good : (a b : Mark) → a ≡ Good → b ≡ Good → worse a b ≡ Good
 worse-good a b p q = rw (p, q) refl

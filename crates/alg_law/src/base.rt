@@ -1,12 +1,16 @@
-ghost use Rattle.std.specs.Prelude.{◌≡◌, ◌||◌, ◌↔◌, IsTrue, [], length, IfOk, slice_get};
-ghost use Rattle.alg_law.specs.Declarations.{declaration_of, declarations_of};
+ghost use Rattle.std.specs.Prelude.{◌≡◌, ◌+◌, ◌-◌, ◌^◌, ◌<◌, ◌≤◌, ◌||◌, ◌↔◌, IsTrue, [], ◌∷◌, ◌++◌, length, take, All, IfOk, OnOk, OnErr, MatchOption, slice_get};
+ghost use Rattle.alg_expr.specs.Arena.{Extends};
+ghost use Rattle.alg_expr.specs.Ids.{statement_of, IsStatementIn};
+ghost use Rattle.alg_law.specs.Declarations.{declaration_of, declarations_of, IsDeclaredIn, TellsAt};
+ghost use Rattle.alg_law.specs.Following.{MayFollow, AllMayFollow, IsWellFormed};
 ghost use Rattle.alg_law.specs.Having.{is_decl, instance_gives, instances_give, has_class, Has};
+ghost use Rattle.alg_law.specs.Lawful.{IsLawful};
 ghost use Rattle.alg_law.specs.Looking.{IsSignature};
 ghost use Rattle.alg_law.specs.WellSorted.{is_type, variable_of, function_of};
 
 use crate::classes::{Class, any_gives, is_in, own};
 use crate::declarations::Declared;
-use alg_expr::{Arena, Memory, Sort};
+use alg_expr::{Arena, Items, Memory, Sort, Stmt, Text};
 use std::alloc::Global;
 use std::marker::Model;
 
@@ -27,13 +31,12 @@ impl Model for Base {
 
     ghost coded = { coded_list declaration_code };
 
-    ghost use Rattle.std.specs.Prelude.{All};
-    ghost use Rattle.alg_law.specs.Declarations.{declarations_of, IsDeclaredIn};
-    ghost use Rattle.alg_law.specs.Lawful.{IsLawful};
+    ghost use Rattle.alg_law.specs.Declarations.{declarations_of};
+    ghost use Rattle.alg_law.specs.Keeping.{IsKept};
 
     ghost view = { λ b. declarations_of b.arena b.declared.items };
 
-    ghost invariant = { λ b. All (IsDeclaredIn b.arena) b.declared.items × IsLawful (declarations_of b.arena b.declared.items) };
+    ghost invariant = { λ b. IsKept b.arena b.declared.items };
 }
 
 impl Base {
@@ -48,10 +51,83 @@ impl Base {
     }
 
     /// How many declarations there are.
+    ///
+    /// Each may follow the ones before it. So a sort with CharZero has Semiring, one with IsStrictOrderedRing has
+    /// Semiring and LinearOrder, and none has both Group and Semiring.
     pub fn len(&self) -> usize
-        ensures { result ≡ length self.now }
+        ensures len { result ≡ length self.now }
+        ensures well_formed { IsWellFormed self.now }
+        ensures lawful { IsLawful self.now }
     {
         self.declared.len()
+    }
+
+    /// The arena of the hypotheses' statements.
+    pub fn arena(&self) -> &Arena {
+        &self.arena
+    }
+
+    /// The declaration with this number, or none where it isn't below the length. The statement of a hypothesis is of
+    /// the base's arena.
+    pub fn get(&self, i: usize) -> Option<&Declared>
+        ensures { MatchOption result (slice_get self.now i ≡ None) (λ d. TellsAt d.now (slice_get self.now i)) }
+    {
+        self.declared.get(i)
+    }
+
+    /// Adds a declaration, and copies the statement of a hypothesis, which is of `from`.
+    pub fn push(&mut self, from: &Arena, d: Declared) -> Result<(), Memory>
+        requires room { length self.old < 2 ^ 32 - 1 }
+        requires here { IsDeclaredIn from.now d }
+        requires fits { MayFollow self.old (declaration_of from.now d) }
+        ensures ok { OnOk result (self.new ≡ self.old ++ declaration_of from.now d ∷ []) }
+        ensures err { OnErr result (self.new ≡ self.old) }
+    {
+        self.keep(from, &d)
+    }
+
+    // adds a copy of a declaration
+    fn keep(&mut self, from: &Arena, d: &Declared) -> Result<(), Memory>
+        requires here { IsDeclaredIn from.now d.now }
+        requires fits { MayFollow self.old (declaration_of from.now d.now) }
+        ensures ok { OnOk result (self.new ≡ self.old ++ declaration_of from.now d.now ∷ []) }
+        ensures err { OnErr result (self.new ≡ self.old) }
+    {
+        let own = own_copy(&mut self.arena, from, d)?;
+        self.declared.push(own)?;
+        Ok(())
+    }
+
+    // adds copies of declarations
+    fn keep_all(&mut self, from: &Arena, ds: &[Declared]) -> Result<(), Memory>
+        requires here { All (IsDeclaredIn from.now) ds.now }
+        requires fit { AllMayFollow self.old (declarations_of from.now ds.now) }
+        ensures ok { OnOk result (self.new ≡ self.old ++ declarations_of from.now ds.now) }
+    {
+        for d in ds {
+            self.keep(from, d)?;
+        }
+        Ok(())
+    }
+
+    /// The first `prefix` declarations of `shared` and then `local`, whose statements are of `from`.
+    pub fn joined(
+        alloc: Global,
+        shared: &Base,
+        prefix: usize,
+        from: &Arena,
+        local: &[Declared],
+    ) -> Result<Base, Memory>
+        requires within { prefix ≤ length shared.now }
+        requires room { prefix + length local.now < 2 ^ 32 }
+        requires here { All (IsDeclaredIn from.now) local.now }
+        requires fit { AllMayFollow (take prefix shared.now) (declarations_of from.now local.now) }
+        ensures { IfOk result (λ b. b ≡ take prefix shared.now ++ declarations_of from.now local.now) }
+    {
+        let mut base = Base::new(alloc)?;
+        base.keep_all(&shared.arena, &shared.declared[..prefix])?;
+        base.keep_all(from, local)?;
+        Ok(base)
     }
 
     // whether declaration k is a type variable
@@ -86,6 +162,68 @@ impl Base {
             _ => None,
         }
     }
+}
+
+// the declaration with its statement in this arena
+fn own_copy(arena: &mut Arena, from: &Arena, d: &Declared) -> Result<Declared, Memory>
+    requires { IsDeclaredIn from.now d.now }
+    ensures keeps { Extends arena.old arena.new }
+    ensures here { IfOk result (IsDeclaredIn arena.new) }
+    ensures same { IfOk result (λ own. declaration_of arena.new own ≡ declaration_of from.now d.now) }
+{
+    let alloc = arena.alloc();
+    match d {
+        Declared::Carrier { name } => Ok(Declared::Carrier {
+            name: copied_text(alloc, name)?,
+        }),
+        Declared::Instance { sort, class } => Ok(Declared::Instance {
+            sort: *sort,
+            class: *class,
+        }),
+        Declared::Variable { name, sort } => Ok(Declared::Variable {
+            name: copied_text(alloc, name)?,
+            sort: *sort,
+        }),
+        Declared::Function { name, args, result } => Ok(Declared::Function {
+            name: copied_text(alloc, name)?,
+            args: copied_sorts(alloc, args)?,
+            result: *result,
+        }),
+        Declared::Hypothesis { name, stmt } => {
+            let name = copied_text(alloc, name)?;
+            let stmt = imported(arena, from, *stmt)?;
+            Ok(Declared::Hypothesis { name, stmt })
+        }
+    }
+}
+
+fn copied_text(alloc: Global, text: &Text) -> Result<Text, Memory>
+    ensures { IfOk result (λ t. t ≡ text.now) }
+{
+    Ok(Text::of(String::from_str(alloc, text.as_str())?))
+}
+
+fn copied_sorts(alloc: Global, sorts: &Items<Sort>) -> Result<Items<Sort>, Memory>
+    ensures { IfOk result (λ it. it ≡ sorts.now) }
+{
+    Ok(Items::of(sorts.as_slice().to_vec(alloc)?))
+}
+
+// the statement in this arena
+fn imported(arena: &mut Arena, from: &Arena, stmt: Stmt) -> Result<Stmt, Memory>
+    requires { IsStatementIn from.now stmt }
+    ensures keeps { Extends arena.old arena.new }
+    ensures here { IfOk result (IsStatementIn arena.new) }
+    ensures same { IfOk result (λ s. statement_of arena.new s ≡ statement_of from.now stmt) }
+{
+    let lhs = arena.import(from, stmt.lhs)?;
+    let rhs = arena.import(from, stmt.rhs)?;
+    Ok(Stmt {
+        rel: stmt.rel,
+        sort: stmt.sort,
+        lhs,
+        rhs,
+    })
 }
 
 /// The sorts of a declared function's arguments and value.

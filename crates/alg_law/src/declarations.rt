@@ -1,12 +1,12 @@
 use crate::classes::Class;
-use alg_expr::{Sort, Stmt};
+use alg_expr::{Items, Sort, Stmt, Text};
 
 /// A declaration of a base. Declarations are numbered from 0 in their order.
 #[derive(Drop)]
 pub enum Declared {
     /// A type variable.
     Carrier {
-        name: String,
+        name: Text,
     },
     /// A class of the type variable that is declaration `sort`.
     Instance {
@@ -15,18 +15,18 @@ pub enum Declared {
     },
     /// A variable of a sort.
     Variable {
-        name: String,
+        name: Text,
         sort: Sort,
     },
     /// A function with the sorts of its arguments and of its value.
     Function {
-        name: String,
-        args: Vec<Sort>,
+        name: Text,
+        args: Items<Sort>,
         result: Sort,
     },
     /// A statement that is taken to hold.
     Hypothesis {
-        name: String,
+        name: Text,
         stmt: Stmt,
     },
 }

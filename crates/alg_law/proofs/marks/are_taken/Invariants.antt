@@ -1,6 +1,6 @@
 use Rattle.std.proofs.Common.{length, ◌-◌, ◌≡◌, drop}
 use Rattle.alg_expr.specs.Applying.{sorts_at}
-use Rattle.alg_terms.specs.Symbols.{places, places_fit}
+use Rattle.alg_terms.specs.Symbols.{places_fit}
 use Rattle.alg_law.proofs.marks.are_taken.Given as goal
 
 abbrev pub invariant-loop-i : goal.invariant-loop-i

@@ -1,4 +1,4 @@
-use Rattle.std.proofs.Common.{length, ◌≡◌, ◌≤◌, ◌-◌, ◌+◌}
+use Rattle.std.proofs.Common.{length, ◌-◌, ◌+◌}
 use Rattle.alg_law.specs.Marks.{HasMarks}
 use Rattle.alg_law.proofs.marks.mark_for.Given as goal
 
