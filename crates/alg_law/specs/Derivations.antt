@@ -1,9 +1,9 @@
 -- Derivations: Birkhoff's equational logic with relations and premises.
-use Rattle.std.specs.Prelude.{◌≡◌, ◌<◌, ℕ, suc, List, [], ◌∷◌, map, Option, Some, Contains, true, ◌||◌}
+use Rattle.std.specs.Prelude.{◌≡◌, ℕ, suc, List, [], ◌∷◌, map, Option, Some, Contains, true, ◌||◌}
 use Rattle.alg_terms.specs.declared.sorts.Sort.{Sort}
 use Rattle.alg_terms.specs.declared.sorts.Sort.TheVariants.{Nat, Int}
 use Rattle.alg_terms.specs.declared.symbols.Sym.{Sym}
-use Rattle.alg_terms.specs.declared.symbols.Sym.TheVariants.{Add, Mul, Nsmul, Zsmul, Npow, Zpow}
+use Rattle.alg_terms.specs.declared.symbols.Sym.TheVariants.{Nsmul, Zsmul, Npow, Zpow}
 use Rattle.alg_terms.specs.declared.relations.Rel.{Rel}
 use Rattle.alg_terms.specs.declared.relations.Rel.TheVariants.{Ne}
 use Rattle.alg_terms.specs.Tree.{Tree, Lit, App, Trees, Nil, Cons, Statement, sort_of_tree, equal, sum_tree, product_tree}
@@ -13,7 +13,8 @@ use Rattle.alg_law.specs.Declarations.{Declaration, hypotheses}
 use Rattle.alg_law.specs.Having.{has_class}
 use Rattle.alg_law.specs.WellSorted.{sort_mark, IsWellSorted}
 use Rattle.alg_law.specs.Patterns.{fill_statement}
-use Rattle.alg_law.specs.Laws.{Row, law_table, letters_of, MayFill}
+use Rattle.alg_law.specs.Rows.{Row, letters_of, MayFill}
+use Rattle.alg_law.specs.Laws.{law_table}
 
 -- the equations of two lists of trees, as far as both go
 abbrev pub equations : Trees → Trees → List Statement

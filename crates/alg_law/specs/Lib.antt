@@ -9,5 +9,15 @@ pub mod WellSorted
 pub mod WellSortedLaws
 pub mod Marks
 pub mod Patterns
+pub mod Rows
+pub mod LawWords
+pub mod AdditiveLaws
+pub mod MultiplicativeLaws
+pub mod RingLaws
+pub mod OrderLaws
+pub mod OrderedRingLaws
 pub mod Laws
+pub mod LawTableLaws
+pub mod LawRows
+pub mod RowNames
 pub mod Derivations
