@@ -1,4 +1,4 @@
--- The table of the laws: the axioms of the classes, and what follows from them, under the names of Mathlib.
+-- The table of the laws: the axioms of the classes, and what follows from them. Most names are those of Mathlib.
 use Rattle.std.specs.Prelude.{ℕ, List, [], ◌∷◌, flat_map, Option, Some, None, if◌then◌else◌, nat_eq}
 use Rattle.std.specs.Cmp.Lexicographic.{pointwise}
 use Rattle.alg_law.specs.Rows.{Row}

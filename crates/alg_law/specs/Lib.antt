@@ -20,4 +20,5 @@ pub mod Laws
 pub mod LawTableLaws
 pub mod LawRows
 pub mod RowNames
+pub mod LeanFunctions
 pub mod Derivations

@@ -1,6 +1,7 @@
 ghost use Rattle.std.specs.Prelude.{◌≡◌, map, option_map};
 ghost use Rattle.alg_law.specs.LawRows.{row_of};
 ghost use Rattle.alg_law.specs.Laws.{law_groups, law_table, row_named};
+ghost use Rattle.alg_law.specs.RowNames.{IsLawNamed};
 
 use crate::additive_laws::{multiple_laws, sum_laws};
 use crate::multiplicative_laws::{power_laws, product_laws};
@@ -30,6 +31,14 @@ pub fn laws() -> [&'static [Law]; 11]
 
 /// The law with this name.
 pub fn law_named(name: &str) -> Option<&'static Law>
+    ensures exact { IsLawNamed name.now (option_map (λ l. row_of l.now) result) }
+    ensures first { option_map (λ l. row_of l.now) result ≡ row_named law_table name.now }
+{
+    first_named(name)
+}
+
+// the first law with this name, group after group
+fn first_named(name: &str) -> Option<&'static Law>
     ensures { option_map (λ l. row_of l.now) result ≡ row_named law_table name.now }
 {
     let groups = laws();

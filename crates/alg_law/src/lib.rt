@@ -22,3 +22,6 @@ pub use law_table::{law_named, laws};
 pub use marks::{Mark, mark_for, mark_for_head, mark_for_sort, relates, worse_of};
 pub use patterns::{Pat, PatSort, PatStmt};
 pub use rows::{Law, Need};
+
+#[cfg(test)]
+mod tests;
