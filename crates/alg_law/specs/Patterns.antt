@@ -5,8 +5,8 @@ use Rattle.alg_terms.specs.declared.sorts.Sort.TheVariants.{Nat, Int}
 use Rattle.alg_terms.specs.declared.symbols.Sym.{Sym}
 use Rattle.alg_terms.specs.declared.relations.Rel.{Rel}
 use Rattle.alg_terms.specs.Tree.{Tree, Lit, App, Trees, Nil, Cons, Statement}
-use Rattle.alg_law.specs.declared.laws.PatSort.{PatSort}
-use Rattle.alg_law.specs.declared.laws.PatSort.TheVariants as of
+use Rattle.alg_law.specs.declared.patterns.PatSort.{PatSort}
+use Rattle.alg_law.specs.declared.patterns.PatSort.TheVariants as of
 
 mutual
   -- a letter by its number, a literal, or a symbol over parts

@@ -1,14 +1,27 @@
-//! Classes, declarations and bases, and which trees are well sorted under a base.
+//! Classes, declarations and bases, which trees are well sorted under a base, and the table of the laws.
 #![tactic(auto)]
 
+mod additive_laws;
 pub mod base;
 pub mod classes;
 pub mod declarations;
-pub mod laws;
+mod law_table;
+mod law_words;
 pub mod marks;
+mod multiplicative_laws;
+mod order_laws;
+mod ordered_ring_laws;
+pub mod patterns;
+mod ring_laws;
+pub mod rows;
 
 pub use base::{Base, Signature, has};
 pub use classes::Class;
 pub use declarations::Declared;
-pub use laws::{Need, PatSort};
+pub use law_table::{law_named, laws};
 pub use marks::{Mark, mark_for, mark_for_head, mark_for_sort, relates, worse_of};
+pub use patterns::{Pat, PatSort, PatStmt};
+pub use rows::{Law, Need};
+
+#[cfg(test)]
+mod tests;

@@ -1,6 +1,6 @@
 -- Sums and products of literals follow from the laws, by induction on the literals.
 use Rattle.std.specs.Prelude.{◌≡◌, ℕ, zero, suc, ◌+◌, ◌*◌, List, [], ◌∷◌, Option, refl, true}
-use Rattle.std.proofs.Common.{add-suc, add-zero, mul-zero, mul-suc, lit<}
+use Rattle.std.proofs.Common.{add-suc, add-zero, mul-zero, mul-suc}
 use Rattle.alg_terms.specs.declared.sorts.Sort.{Sort}
 use Rattle.alg_terms.specs.declared.symbols.Sym.TheVariants.{Add, Mul}
 use Rattle.alg_terms.specs.Tree.{Tree, Lit, Nil, Cons, Statement, sort_of_tree, equal, sum_tree, product_tree}
@@ -11,7 +11,11 @@ use Rattle.alg_law.specs.Declarations.{Declaration}
 use Rattle.alg_law.specs.Having.{has_class}
 use Rattle.alg_law.specs.WellSorted.{sort_mark, mark_of, IsWellSorted, AreWellSorted}
 use Rattle.alg_law.specs.WellSortedLaws.{worse-good, literal-good, sum-good, product-good, semiring-add, semiring-one}
-use Rattle.alg_law.specs.Laws.{MayFill, add_zero, add_assoc, mul_zero, left_distrib, mul_one}
+use Rattle.alg_law.specs.Rows.{MayFill}
+use Rattle.alg_law.specs.AdditiveLaws.{add_assoc, add_zero}
+use Rattle.alg_law.specs.MultiplicativeLaws.{mul_one}
+use Rattle.alg_law.specs.RingLaws.{left_distrib, mul_zero}
+use Rattle.alg_law.specs.LawTableLaws.{has-add_assoc, has-add_zero, has-mul_one, has-left_distrib, has-mul_zero}
 use Rattle.alg_law.specs.Derivations.{Derivable, reflexive, symmetric, transitive, congruent, row, literal_law, next_literal, AllDerivable, none, more}
 
 module _ (ds : List Declaration) (given : Option Statement) (s : Sort) (known : sort_mark ds s ≡ Good) (ring : has_class ds s Semiring ≡ true) where
@@ -34,22 +38,22 @@ module _ (ds : List Declaration) (given : Option Statement) (s : Sort) (known : 
   one-good m = worse-good (mark_of ds (Lit s m)) Good (good m) refl
 
   plus_zero : (m : ℕ) → Has (sum_tree s (Lit s m) (Lit s 0)) (Lit s m)
-  plus_zero m = row add_zero s (Lit s m ∷ []) (1, lit< tt, refl) (record { known = known; needs = rw (semiring-add ds s known ring) refl; sorts = refl; trees = one-good m }) none
+  plus_zero m = row add_zero s (Lit s m ∷ []) has-add_zero (record { known = known; needs = rw (semiring-add ds s known ring) refl; sorts = refl; trees = one-good m }) none
 
   plus_assoc : (m n k : ℕ) → Has (sum_tree s (sum_tree s (Lit s m) (Lit s n)) (Lit s k)) (sum_tree s (Lit s m) (sum_tree s (Lit s n) (Lit s k)))
   plus_assoc m n k =
-      row add_assoc s (Lit s m ∷ Lit s n ∷ Lit s k ∷ []) (0, lit< tt, refl)
+      row add_assoc s (Lit s m ∷ Lit s n ∷ Lit s k ∷ []) has-add_assoc
       (record { known = known; needs = rw (semiring-add ds s known ring) refl; sorts = refl; trees = all-good m n k }) none
 
   times_zero : (m : ℕ) → Has (product_tree s (Lit s m) (Lit s 0)) (Lit s 0)
-  times_zero m = row mul_zero s (Lit s m ∷ []) (5, lit< tt, refl) (record { known = known; needs = rw ring refl; sorts = refl; trees = one-good m }) none
+  times_zero m = row mul_zero s (Lit s m ∷ []) has-mul_zero (record { known = known; needs = rw ring refl; sorts = refl; trees = one-good m }) none
 
   times_one : (m : ℕ) → Has (product_tree s (Lit s m) (Lit s 1)) (Lit s m)
-  times_one m = row mul_one s (Lit s m ∷ []) (3, lit< tt, refl) (record { known = known; needs = rw (semiring-one ds s known ring) refl; sorts = refl; trees = one-good m }) none
+  times_one m = row mul_one s (Lit s m ∷ []) has-mul_one (record { known = known; needs = rw (semiring-one ds s known ring) refl; sorts = refl; trees = one-good m }) none
 
   distrib : (m n k : ℕ) → Has (product_tree s (Lit s m) (sum_tree s (Lit s n) (Lit s k))) (sum_tree s (product_tree s (Lit s m) (Lit s n)) (product_tree s (Lit s m) (Lit s k)))
   distrib m n k =
-      row left_distrib s (Lit s m ∷ Lit s n ∷ Lit s k ∷ []) (4, lit< tt, refl)
+      row left_distrib s (Lit s m ∷ Lit s n ∷ Lit s k ∷ []) has-left_distrib
       (record { known = known; needs = rw ring refl; sorts = refl; trees = all-good m n k }) none
 
   next : (n : ℕ) → Has (Lit s (suc n)) (sum_tree s (Lit s n) (Lit s 1))

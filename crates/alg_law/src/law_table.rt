@@ -1,0 +1,63 @@
+ghost use Rattle.std.specs.Prelude.{◌≡◌, map, option_map};
+ghost use Rattle.alg_law.specs.LawRows.{row_of};
+ghost use Rattle.alg_law.specs.Laws.{law_groups, law_table, row_named};
+ghost use Rattle.alg_law.specs.RowNames.{IsLawNamed};
+
+use crate::additive_laws::{multiple_laws, sum_laws};
+use crate::multiplicative_laws::{power_laws, product_laws};
+use crate::order_laws::{min_max_laws, order_laws};
+use crate::ordered_ring_laws::{ordered_ring_laws, ordered_semiring_laws};
+use crate::ring_laws::{field_laws, semiring_laws, unequal_laws};
+use crate::rows::Law;
+
+/// The laws, in groups.
+pub fn laws() -> [&'static [Law]; 11]
+    ensures { map (λ g. map row_of g.now) result ≡ law_groups }
+{
+    [
+        sum_laws(),
+        multiple_laws(),
+        product_laws(),
+        power_laws(),
+        semiring_laws(),
+        field_laws(),
+        unequal_laws(),
+        order_laws(),
+        min_max_laws(),
+        ordered_semiring_laws(),
+        ordered_ring_laws(),
+    ]
+}
+
+/// The law with this name.
+pub fn law_named(name: &str) -> Option<&'static Law>
+    ensures exact { IsLawNamed name.now (option_map (λ l. row_of l.now) result) }
+    ensures first { option_map (λ l. row_of l.now) result ≡ row_named law_table name.now }
+{
+    first_named(name)
+}
+
+// the first law with this name, group after group
+fn first_named(name: &str) -> Option<&'static Law>
+    ensures { option_map (λ l. row_of l.now) result ≡ row_named law_table name.now }
+{
+    let groups = laws();
+    for group in groups {
+        if let Some(law) = named_in(group, name) {
+            return Some(law);
+        }
+    }
+    None
+}
+
+// the first law of a group with this name
+fn named_in(group: &'static [Law], name: &str) -> Option<&'static Law>
+    ensures { option_map (λ l. row_of l.now) result ≡ row_named (map row_of group.now) name.now }
+{
+    for law in group {
+        if law.name == name {
+            return Some(law);
+        }
+    }
+    None
+}
