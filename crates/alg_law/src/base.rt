@@ -75,6 +75,17 @@ impl Base {
         self.declared.get(i)
     }
 
+    /// All declarations, with the arena that their statements are of.
+    pub fn declarations(&self) -> Declarations<'_>
+        ensures list { declarations_of result.arena.now result.list.now ≡ self.now }
+        ensures here { All (IsDeclaredIn result.arena.now) result.list.now }
+    {
+        Declarations {
+            arena: &self.arena,
+            list: self.declared.as_slice(),
+        }
+    }
+
     /// Adds a declaration, and copies the statement of a hypothesis, which is of `from`.
     pub fn push(&mut self, from: &Arena, d: Declared) -> Result<(), Memory>
         requires room { length self.old < 2 ^ 32 - 1 }
@@ -224,6 +235,13 @@ fn imported(arena: &mut Arena, from: &Arena, stmt: Stmt) -> Result<Stmt, Memory>
         lhs,
         rhs,
     })
+}
+
+/// The declarations of a base, lent with the arena that their statements are of.
+#[derive(Clone, Copy)]
+pub struct Declarations<'a> {
+    pub arena: &'a Arena,
+    pub list: &'a [Declared],
 }
 
 /// The sorts of a declared function's arguments and value.

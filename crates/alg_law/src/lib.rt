@@ -4,6 +4,7 @@
 mod additive_laws;
 pub mod base;
 pub mod classes;
+mod combo;
 pub mod declarations;
 mod law_table;
 mod law_words;
@@ -15,8 +16,9 @@ pub mod patterns;
 mod ring_laws;
 pub mod rows;
 
-pub use base::{Base, Signature, has};
+pub use base::{Base, Declarations, Signature, has};
 pub use classes::Class;
+pub use combo::Combo;
 pub use declarations::Declared;
 pub use law_table::{law_named, laws};
 pub use marks::{Mark, mark_for, mark_for_head, mark_for_sort, relates, worse_of};
