@@ -1,0 +1,12 @@
+pub mod FrontLemmas
+pub mod Levels
+pub mod MachineComplete
+pub mod MachineSound
+pub mod Many
+pub mod NodeLemmas
+pub mod Readings
+pub mod StatementReadings
+pub mod Turns
+pub mod BinderReadings
+pub mod ScriptReadings
+pub mod CommandReadings

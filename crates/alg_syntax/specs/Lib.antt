@@ -1,0 +1,14 @@
+pub mod Commands
+pub mod Expressions
+pub mod Frames
+pub mod Front
+pub mod Machine
+pub mod Nodes
+pub mod Parsers
+pub mod Reading
+pub mod Signs
+pub mod Spelling
+pub mod TreeCode
+pub mod Written
+pub mod Limits
+pub mod Answers
