@@ -27,10 +27,10 @@ picked ts [] k s e f = cc
 picked ts (d ∷ ds) zero s e f = ap (statement_of ts) e
 picked ts (d ∷ ds) (suc k) s e f = picked ts ds k s e f
 
-pub concluded_is : (base : List Declaration) (ts : List Tree) (ls : List Line) (ds : List Stmt) (old : Book) (i : ℕ) (s : Stmt)
-    → book_of base ts ls ds ≡ old → IsThere old i → s ≡ get_or ds (i - 1) s → statement_of old.trees s ≡ fact old i
+pub concluded_is : (th : Theory) (ts : List Tree) (ls : List Line) (ds : List Stmt) (old : Book) (i : ℕ) (s : Stmt)
+    → book_of th ts ls ds ≡ old → IsThere old i → s ≡ get_or ds (i - 1) s → statement_of old.trees s ≡ fact old i
 unfolding fact
-concluded_is base ts ls ds old i s same at is = subst (λ (b : Book). statement_of b.trees s ≡ stated (line_at b.done i)) same (go i (subst (λ (b : Book). IsThere b i) (sym same) at) is)
+concluded_is th ts ls ds old i s same at is = subst (λ (b : Book). statement_of b.trees s ≡ stated (line_at b.done i)) same (go i (subst (λ (b : Book). IsThere b i) (sym same) at) is)
   where
     go : (i : ℕ) → IsSome (line_at (statements_of ts ds) i) → s ≡ get_or ds (i - 1) s → statement_of ts s ≡ stated (line_at (statements_of ts ds) i)
     go zero e f = cc
@@ -44,10 +44,10 @@ one_sort [] k h e = cc
 one_sort (s ∷ ss) zero h e = All-head HasOneSort s ss h
 one_sort (s ∷ ss) (suc k) h e = one_sort ss k (All-tail HasOneSort s ss h) e
 
-pub concluded_sorts : (base : List Declaration) (ts : List Tree) (ls : List Line) (ds : List Stmt) (old : Book) (i : ℕ)
-    → book_of base ts ls ds ≡ old → IsSound base ts ls ds → IsThere old i → HasOneSort (fact old i)
+pub concluded_sorts : (th : Theory) (ts : List Tree) (ls : List Line) (ds : List Stmt) (old : Book) (i : ℕ)
+    → book_of th ts ls ds ≡ old → IsSound th ts ls ds → IsThere old i → HasOneSort (fact old i)
 unfolding fact
-concluded_sorts base ts ls ds old i same h at = subst (λ (b : Book). HasOneSort (stated (line_at b.done i))) same (go i (subst (λ (b : Book). IsThere b i) (sym same) at))
+concluded_sorts th ts ls ds old i same h at = subst (λ (b : Book). HasOneSort (stated (line_at b.done i))) same (go i (subst (λ (b : Book). IsThere b i) (sym same) at))
   where
     go : (i : ℕ) → IsSome (line_at (statements_of ts ds) i) → HasOneSort (stated (line_at (statements_of ts ds) i))
     go zero e = cc
@@ -73,9 +73,9 @@ line_at-last : {A : Type 0} (xs : List A) (i : ℕ) (x : A) → line_at xs i ≡
 line_at-last xs zero x e = cc
 line_at-last xs (suc k) x e = rw (length-take-le (suc k) xs (line_at-within xs (suc k) x e)) (slice_get-take xs k x e)
 
-pub last_is : (base : List Declaration) (ts : List Tree) (ls : List Line) (ds : List Stmt) (old : Book) (n : ℕ) (s : Statement) → book_of base ts ls ds ≡ old
+pub last_is : (th : Theory) (ts : List Tree) (ls : List Line) (ds : List Stmt) (old : Book) (n : ℕ) (s : Statement) → book_of th ts ls ds ≡ old
     → line_at old.done n ≡ Some s → line_at (statements_of ts (take n ds)) (length (statements_of ts (take n ds))) ≡ Some s
-last_is base ts ls ds old n s same e =
+last_is th ts ls ds old n s same e =
     rw (← take-map (statement_of ts) n ds) (line_at-last (statements_of ts ds) n s (subst (λ (b : Book). line_at b.done n ≡ Some s) (sym same) e))
 
 -- the middle trees are one, and all are of one sort
@@ -85,14 +85,14 @@ trans_good th done i j x y z p q h = rw (p, q, h, sort_same-self (sort_of_tree x
 
 pub trans_line : (b : Book) (i j : ℕ) (x y s : Stmt) → IsEquation b i → IsEquation b j → right_at b i ≡ left_at b j → HasOneSort (fact b i)
     → statement_of b.trees x ≡ fact b i → statement_of b.trees y ≡ fact b j → statement_of b.trees s ≡ equal (tree_of b.trees x.lhs) (tree_of b.trees y.rhs)
-    → conclude (theory_of b) b.done (Trans i j) ≡ Ok (statement_of b.trees s)
+    → conclude (b.theory) b.done (Trans i j) ≡ Ok (statement_of b.trees s)
 trans_line b i j x y s p q m h e f is =
-    trans_good (theory_of b) b.done i j (left_at b i) (right_at b i) (right_at b j) p.line (q.line ∙ ap (λ t. Some (equal t (right_at b j))) (sym m)) (h.right ∙ sym h.left)
+    trans_good (b.theory) b.done i j (left_at b i) (right_at b i) (right_at b j) p.line (q.line ∙ ap (λ t. Some (equal t (right_at b j))) (sym m)) (h.right ∙ sym h.left)
     ∙ ap Ok (sym (is ∙ (λ k. equal (e k).lhs (f k).rhs)))
 
 pub keeps_then : (a b c : Book) → KeepsLines a b → KeepsLines b c → KeepsLines a c
 keeps_then a b c p q = record {
-  base = q.base ∙ p.base;
+  theory = q.theory ∙ p.theory;
   trees = Extends-then a.trees b.trees c.trees p.trees q.trees;
   steps = q.steps ∙ p.steps;
   done = q.done ∙ p.done;
@@ -114,12 +114,12 @@ operation_line a b c d g sort x y m n (Err e) p q s = tt
 
 adds_after : (a b c : Book) (n : ℕ) (l : Step) (s t : Statement) → KeepsLines a b → Adds b c n l s → s ≡ t → Adds a c n l t
 adds_after a b c n l s t k p e = record {
-  base = p.base ∙ k.base;
+  theory = p.theory ∙ k.theory;
   trees = Extends-then a.trees b.trees c.trees k.trees p.trees;
   steps = p.steps ∙ ap (λ ls. ls ++ l ∷ []) k.steps;
   done = p.done ∙ (λ i. k.done i ++ e i ∷ []);
   number = p.number;
-  good = (λ i. conclude (record { declarations = sym k.base i }) (sym k.done i) l) ∙ p.good ∙ ap Ok e;
+  good = (λ i. conclude (sym k.theory i) (sym k.done i) l) ∙ p.good ∙ ap Ok e;
 }
 
 pub added : (a b c : Book) (l : Step) (s t : Statement) (r : Result ℕ Memory) → KeepsLines a b → s ≡ t → IfOk r (λ n. Adds b c n l s) → IfOk r (λ n. Adds a c n l t)

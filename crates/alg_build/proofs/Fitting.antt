@@ -151,21 +151,21 @@ trees_at-extends ts us (e ∷ es) x h =
 -- the sides of some lines
 
 -- the mark, told of the left sides
-pub sides_fit : (b : Book) (ls rs : List ExprId) (is : List ℕ) (f : Sym) (s : Sort) → AreSides b ls rs is → head_mark b.base f s (sorts_of (lefts_at b is)) ≡ Good → Fits b.base f s (sorts_at b.trees ls)
-sides_fit b ls rs is f s h e = fits b.base f s (sorts_at b.trees ls) (subst (λ ts. head_mark b.base f s ts ≡ Good) ((λ i. sorts_of (of_list (sym h.left i))) ∙ sorts_at-list b.trees ls) e)
+pub sides_fit : (b : Book) (ls rs : List ExprId) (is : List ℕ) (f : Sym) (s : Sort) → AreSides b ls rs is → head_mark b.theory.declarations f s (sorts_of (lefts_at b is)) ≡ Good → Fits b.theory.declarations f s (sorts_at b.trees ls)
+sides_fit b ls rs is f s h e = fits b.theory.declarations f s (sorts_at b.trees ls) (subst (λ ts. head_mark b.theory.declarations f s ts ≡ Good) ((λ i. sorts_of (of_list (sym h.left i))) ∙ sorts_at-list b.trees ls) e)
 
-pub left_arity : (b : Book) (ls rs : List ExprId) (is : List ℕ) (f : Sym) (s : Sort) → AreSides b ls rs is → head_mark b.base f s (sorts_of (lefts_at b is)) ≡ Good → arity_fits f (length ls) ≡ true
+pub left_arity : (b : Book) (ls rs : List ExprId) (is : List ℕ) (f : Sym) (s : Sort) → AreSides b ls rs is → head_mark b.theory.declarations f s (sorts_of (lefts_at b is)) ≡ Good → arity_fits f (length ls) ≡ true
 left_arity b ls rs is f s h e = subst (λ n. arity_fits f n ≡ true) (length-map ls (λ x. sort_of_tree (tree_of b.trees x))) (sides_fit b ls rs is f s h e).arity
 
-pub left_sorts : (b : Book) (ls rs : List ExprId) (is : List ℕ) (f : Sym) (s : Sort) → AreSides b ls rs is → head_mark b.base f s (sorts_of (lefts_at b is)) ≡ Good → sorts_fit f s (sorts_at b.trees ls) ≡ true
+pub left_sorts : (b : Book) (ls rs : List ExprId) (is : List ℕ) (f : Sym) (s : Sort) → AreSides b ls rs is → head_mark b.theory.declarations f s (sorts_of (lefts_at b is)) ≡ Good → sorts_fit f s (sorts_at b.trees ls) ≡ true
 left_sorts b ls rs is f s h e = (sides_fit b ls rs is f s h e).sorts
 
-pub right_arity : (b : Book) (ls rs : List ExprId) (is : List ℕ) (f : Sym) (s : Sort) → AreSides b ls rs is → head_mark b.base f s (sorts_of (lefts_at b is)) ≡ Good → arity_fits f (length rs) ≡ true
+pub right_arity : (b : Book) (ls rs : List ExprId) (is : List ℕ) (f : Sym) (s : Sort) → AreSides b ls rs is → head_mark b.theory.declarations f s (sorts_of (lefts_at b is)) ≡ Good → arity_fits f (length rs) ≡ true
 right_arity b ls rs is f s h e =
     let same : length ls ≡ length rs = sym (length-map ls (λ x. sort_of_tree (tree_of b.trees x))) ∙ ap length (sym h.sorts) ∙ length-map rs (λ x. sort_of_tree (tree_of b.trees x)) in
     subst (λ n. arity_fits f n ≡ true) same (left_arity b ls rs is f s h e)
 
-pub right_sorts : (b c : Book) (ls rs : List ExprId) (is : List ℕ) (f : Sym) (s : Sort) → AreSides b ls rs is → head_mark b.base f s (sorts_of (lefts_at b is)) ≡ Good → KeepsLines b c
+pub right_sorts : (b c : Book) (ls rs : List ExprId) (is : List ℕ) (f : Sym) (s : Sort) → AreSides b ls rs is → head_mark b.theory.declarations f s (sorts_of (lefts_at b is)) ≡ Good → KeepsLines b c
     → sorts_fit f s (sorts_at c.trees rs) ≡ true
 right_sorts b c ls rs is f s h e k =
     subst (λ ts. sorts_fit f s ts ≡ true) (sym (sorts_at-extends b.trees c.trees rs k.trees h.rights_in ∙ h.sorts)) (left_sorts b ls rs is f s h e)
@@ -203,17 +203,17 @@ equations_of_facts : (b : Book) (is : List ℕ) → all_equations (facts_at b is
 equations_of_facts b [] = refl
 equations_of_facts b (i ∷ is) = equations_of_facts b is
 
-pub cong_good : (b : Book) (f : Sym) (s : Sort) (is : List ℕ) → All (IsEquation b) is → head_mark b.base f s (sorts_of (lefts_at b is)) ≡ Good
-    → conclude (theory_of b) b.done (Cong f is) ≡ Ok (equal (App f s (lefts_at b is)) (App f s (rights_at b is)))
+pub cong_good : (b : Book) (f : Sym) (s : Sort) (is : List ℕ) → All (IsEquation b) is → head_mark b.theory.declarations f s (sorts_of (lefts_at b is)) ≡ Good
+    → conclude (b.theory) b.done (Cong f is) ≡ Ok (equal (App f s (lefts_at b is)) (App f s (rights_at b is)))
 cong_good b f s is h e =
-    let g = fits b.base f s (sorts_of (lefts_at b is)) e in
+    let g = fits b.theory.declarations f s (sorts_of (lefts_at b is)) e in
     rw (g.name, all_there b is h, lefts_of_facts b is, rights_of_facts b is, equations_of_facts b is, g.value, e) refl
 
 -- the same, after new trees
-pub cong_line : (a b : Book) (f : Sym) (s : Sort) (is ns : List ℕ) (st : Statement) → KeepsLines a b → All (IsEquation a) is → head_mark a.base f s (sorts_of (lefts_at a is)) ≡ Good
-    → ns ≡ is → st ≡ equal (App f s (lefts_at a is)) (App f s (rights_at a is)) → conclude (theory_of b) b.done (Cong f ns) ≡ Ok st
+pub cong_line : (a b : Book) (f : Sym) (s : Sort) (is ns : List ℕ) (st : Statement) → KeepsLines a b → All (IsEquation a) is → head_mark a.theory.declarations f s (sorts_of (lefts_at a is)) ≡ Good
+    → ns ≡ is → st ≡ equal (App f s (lefts_at a is)) (App f s (rights_at a is)) → conclude (b.theory) b.done (Cong f ns) ≡ Ok st
 cong_line a b f s is ns st k h e n t =
-    (λ i. conclude (record { declarations = k.base i }) (k.done i) (Cong f (n i))) ∙ cong_good a f s is h e ∙ ap Ok (sym t)
+    (λ i. conclude (k.theory i) (k.done i) (Cong f (n i))) ∙ cong_good a f s is h e ∙ ap Ok (sym t)
 
 pub one_sorted : (f : Sym) (s : Sort) (xs ys : Trees) (st : Statement) → st ≡ equal (App f s xs) (App f s ys) → HasOneSort st
 one_sorted f s xs ys st e = subst HasOneSort (sym e) (record { left = refl; right = refl })

@@ -50,17 +50,17 @@ steps_of-extends ts us (l ∷ ls) x h =
     let b : steps_of us ls ≡ steps_of ts ls = steps_of-extends ts us ls x (All-tail (IsLineIn ts) l ls h) in
     cc
 
-pub sound-extends : (base : List Declaration) (ts us : List Tree) (ls : List Line) (ds : List Stmt) → Extends ts us → IsSound base ts ls ds → IsSound base us ls ds
-sound-extends base ts us ls ds x s = record {
+pub sound-extends : (th : Theory) (ts us : List Tree) (ls : List Line) (ds : List Stmt) → Extends ts us → IsSound th ts ls ds → IsSound th us ls ds
+sound-extends th ts us ls ds x s = record {
   lines_in = λ k d l. IsLineIn-extends ts us _ x (s.lines_in k d l);
   done_in = IsStatementIn-extends ts us ds x s.done_in;
   good = rw (steps_of-extends ts us ls x s.lines_in, statements_of-extends ts us ds x s.done_in) s.good;
   sorts = rw (statements_of-extends ts us ds x s.done_in) s.sorts;
 }
 
-book-extends : (base : List Declaration) (ts us : List Tree) (ls : List Line) (ds : List Stmt) → Extends ts us → IsSound base ts ls ds → KeepsLines (book_of base ts ls ds) (book_of base us ls ds)
-book-extends base ts us ls ds x s = record {
-  base = refl;
+book-extends : (th : Theory) (ts us : List Tree) (ls : List Line) (ds : List Stmt) → Extends ts us → IsSound th ts ls ds → KeepsLines (book_of th ts ls ds) (book_of th us ls ds)
+book-extends th ts us ls ds x s = record {
+  theory = refl;
   trees = x;
   steps = steps_of-extends ts us ls x s.lines_in;
   done = statements_of-extends ts us ds x s.done_in;
@@ -68,28 +68,28 @@ book-extends base ts us ls ds x s = record {
 
 -- a new tree
 
-made : (base : List Declaration) (ts us : List Tree) (ls : List Line) (ds : List Stmt) (old : Book) (e : ExprId) (t : Tree) → book_of base ts ls ds ≡ old → IsSound base ts ls ds
-    → Extends ts us → IsIn us e → tree_of us e ≡ t → Makes old (book_of base us ls ds) e t
-made base ts us ls ds old e t same s x h is = rw (← same) (record { keeps = book-extends base ts us ls ds x s; here = h; tree = is })
+made : (th : Theory) (ts us : List Tree) (ls : List Line) (ds : List Stmt) (old : Book) (e : ExprId) (t : Tree) → book_of th ts ls ds ≡ old → IsSound th ts ls ds
+    → Extends ts us → IsIn us e → tree_of us e ≡ t → Makes old (book_of th us ls ds) e t
+made th ts us ls ds old e t same s x h is = rw (← same) (record { keeps = book-extends th ts us ls ds x s; here = h; tree = is })
 
-pub makes_grown : (base : List Declaration) (ts us : List Tree) (ls : List Line) (ds : List Stmt) (old : Book) (e : ExprId) (t : Tree) → book_of base ts ls ds ≡ old → IsSound base ts ls ds
-    → GrowsBy ts us e t → Makes old (book_of base us ls ds) e t
-makes_grown base ts us ls ds old e t same s g = made base ts us ls ds old e t same s (GrowsBy-Extends ts us e t g) g.here g.tree
+pub makes_grown : (th : Theory) (ts us : List Tree) (ls : List Line) (ds : List Stmt) (old : Book) (e : ExprId) (t : Tree) → book_of th ts ls ds ≡ old → IsSound th ts ls ds
+    → GrowsBy ts us e t → Makes old (book_of th us ls ds) e t
+makes_grown th ts us ls ds old e t same s g = made th ts us ls ds old e t same s (GrowsBy-Extends ts us e t g) g.here g.tree
 
-pub makes : {E : Type 0} (base : List Declaration) (ts us : List Tree) (ls : List Line) (ds : List Stmt) (old : Book) (t : Tree) (r : Result ExprId E) → book_of base ts ls ds ≡ old → IsSound base ts ls ds
-    → IfOk r (λ e. GrowsBy ts us e t) → IfOk r (λ e. Makes old (book_of base us ls ds) e t)
-makes base ts us ls ds old t (Ok e) same s h = makes_grown base ts us ls ds old e t same s h
-makes base ts us ls ds old t (Err m) same s h = tt
+pub makes : {E : Type 0} (th : Theory) (ts us : List Tree) (ls : List Line) (ds : List Stmt) (old : Book) (t : Tree) (r : Result ExprId E) → book_of th ts ls ds ≡ old → IsSound th ts ls ds
+    → IfOk r (λ e. GrowsBy ts us e t) → IfOk r (λ e. Makes old (book_of th us ls ds) e t)
+makes th ts us ls ds old t (Ok e) same s h = makes_grown th ts us ls ds old e t same s h
+makes th ts us ls ds old t (Err m) same s h = tt
 
-pub makes_imported : {E : Type 0} (base : List Declaration) (ts us : List Tree) (ls : List Line) (ds : List Stmt) (old : Book) (t : Tree) (r : Result ExprId E) → book_of base ts ls ds ≡ old → IsSound base ts ls ds
-    → IfOk r (λ e. Imports ts us e t) → IfOk r (λ e. Makes old (book_of base us ls ds) e t)
-makes_imported base ts us ls ds old t (Ok e) same s h = made base ts us ls ds old e t same s h.keeps h.here h.tree
-makes_imported base ts us ls ds old t (Err m) same s h = tt
+pub makes_imported : {E : Type 0} (th : Theory) (ts us : List Tree) (ls : List Line) (ds : List Stmt) (old : Book) (t : Tree) (r : Result ExprId E) → book_of th ts ls ds ≡ old → IsSound th ts ls ds
+    → IfOk r (λ e. Imports ts us e t) → IfOk r (λ e. Makes old (book_of th us ls ds) e t)
+makes_imported th ts us ls ds old t (Ok e) same s h = made th ts us ls ds old e t same s h.keeps h.here h.tree
+makes_imported th ts us ls ds old t (Err m) same s h = tt
 
 -- the lines
 
-pub sound-new : (base : List Declaration) (ts : List Tree) → IsSound base ts [] []
-sound-new base ts = record {
+pub sound-new : (th : Theory) (ts : List Tree) → IsSound th ts [] []
+sound-new th ts = record {
   lines_in = λ k d l. absurd (omega (arith, l));
   done_in = λ k d l. absurd (omega (arith, l));
   good = none;
@@ -97,9 +97,9 @@ sound-new base ts = record {
 }
 
 -- one more good line
-sound-push : (base : List Declaration) (ts : List Tree) (ls : List Line) (ds : List Stmt) (l : Line) (s : Stmt) → IsSound base ts ls ds → IsLineIn ts l → IsStatementIn ts s
-    → conclude (record { declarations = base }) (statements_of ts ds) (step_of ts l) ≡ Ok (statement_of ts s) → HasOneSort (statement_of ts s) → IsSound base ts (ls ++ l ∷ []) (ds ++ s ∷ [])
-sound-push base ts ls ds l s h line_in s_in good sorts =
+sound-push : (th : Theory) (ts : List Tree) (ls : List Line) (ds : List Stmt) (l : Line) (s : Stmt) → IsSound th ts ls ds → IsLineIn ts l → IsStatementIn ts s
+    → conclude th (statements_of ts ds) (step_of ts l) ≡ Ok (statement_of ts s) → HasOneSort (statement_of ts s) → IsSound th ts (ls ++ l ∷ []) (ds ++ s ∷ [])
+sound-push th ts ls ds l s h line_in s_in good sorts =
     let a : steps_of ts (ls ++ l ∷ []) ≡ steps_of ts ls ++ step_of ts l ∷ [] = map-append (step_of ts) ls (l ∷ []) in
     let b : statements_of ts (ds ++ s ∷ []) ≡ statements_of ts ds ++ statement_of ts s ∷ [] = map-append (statement_of ts) ds (s ∷ []) in
     record {
@@ -110,22 +110,22 @@ sound-push base ts ls ds l s h line_in s_in good sorts =
     }
 
 -- the same, where the line and its conclusion are spoken of by the book
-pub pushed : (base : List Declaration) (ts : List Tree) (ls : List Line) (ds : List Stmt) (l : Line) (s : Stmt) (old : Book) → book_of base ts ls ds ≡ old → IsSound base ts ls ds
-    → IsLineIn old.trees l → IsStatementIn old.trees s → conclude (theory_of old) old.done (step_of old.trees l) ≡ Ok (statement_of old.trees s) → HasOneSort (statement_of old.trees s)
-    → IsSound base ts (ls ++ l ∷ []) (ds ++ s ∷ [])
-pushed base ts ls ds l s old same h line_in s_in good sorts =
-    sound-push base ts ls ds l s h
+pub pushed : (th : Theory) (ts : List Tree) (ls : List Line) (ds : List Stmt) (l : Line) (s : Stmt) (old : Book) → book_of th ts ls ds ≡ old → IsSound th ts ls ds
+    → IsLineIn old.trees l → IsStatementIn old.trees s → conclude (old.theory) old.done (step_of old.trees l) ≡ Ok (statement_of old.trees s) → HasOneSort (statement_of old.trees s)
+    → IsSound th ts (ls ++ l ∷ []) (ds ++ s ∷ [])
+pushed th ts ls ds l s old same h line_in s_in good sorts =
+    sound-push th ts ls ds l s h
     (subst (λ (b : Book). IsLineIn b.trees l) (sym same) line_in)
     (subst (λ (b : Book). IsStatementIn b.trees s) (sym same) s_in)
-    (subst (λ (b : Book). conclude (theory_of b) b.done (step_of b.trees l) ≡ Ok (statement_of b.trees s)) (sym same) good)
+    (subst (λ (b : Book). conclude (b.theory) b.done (step_of b.trees l) ≡ Ok (statement_of b.trees s)) (sym same) good)
     (subst (λ (b : Book). HasOneSort (statement_of b.trees s)) (sym same) sorts)
 
 good_lengths : (th : Theory) (steps : List Step) (done : List Statement) → AreGood th steps done → length steps ≡ length done
 good_lengths th _ _ none = refl
 good_lengths th _ _ (one_more steps done l s h e) = omega (arith, good_lengths th steps done h, length-append steps (l ∷ []), length-append done (s ∷ []))
 
-pub lengths : (base : List Declaration) (ts : List Tree) (ls : List Line) (ds : List Stmt) (old : Book) → book_of base ts ls ds ≡ old → IsSound base ts ls ds → length old.done ≡ length old.steps
-lengths base ts ls ds old same h = subst (λ (b : Book). length b.done ≡ length b.steps) same (sym (good_lengths (record { declarations = base }) (steps_of ts ls) (statements_of ts ds) h.good))
+pub lengths : (th : Theory) (ts : List Tree) (ls : List Line) (ds : List Stmt) (old : Book) → book_of th ts ls ds ≡ old → IsSound th ts ls ds → length old.done ≡ length old.steps
+lengths th ts ls ds old same h = subst (λ (b : Book). length b.done ≡ length b.steps) same (sym (good_lengths th (steps_of ts ls) (statements_of ts ds) h.good))
 
 take_or : {A : Type 0} (n : ℕ) (xs : List A) (x : A) → n ≤ length xs → take n (xs ++ x ∷ []) ≡ take n xs
 take_or n xs x l = grind (arith, common_steps)
@@ -144,14 +144,14 @@ good_take th n _ _ (one_more steps done l s h e) = go (le_or_lt n (length steps)
         rw (take_all n (steps ++ l ∷ []) (omega (arith, k, length-append steps (l ∷ []))), take_all n (done ++ s ∷ []) (omega (arith, k, good_lengths th steps done h, length-append done (s ∷ []))))
         (one_more steps done l s h e)
 
-pub sound-take : (n : ℕ) (base : List Declaration) (ts : List Tree) (ls : List Line) (ds : List Stmt) → IsSound base ts ls ds → IsSound base ts (take n ls) (take n ds)
-sound-take n base ts ls ds h = record {
+pub sound-take : (n : ℕ) (th : Theory) (ts : List Tree) (ls : List Line) (ds : List Stmt) → IsSound th ts ls ds → IsSound th ts (take n ls) (take n ds)
+sound-take n th ts ls ds h = record {
   lines_in = All-take (IsLineIn ts) n ls h.lines_in;
   done_in = All-take (IsStatementIn ts) n ds h.done_in;
-  good = rw (← take-map (step_of ts) n ls, ← take-map (statement_of ts) n ds) (good_take (record { declarations = base }) n _ _ h.good);
+  good = rw (← take-map (step_of ts) n ls, ← take-map (statement_of ts) n ds) (good_take th n _ _ h.good);
   sorts = rw (← take-map (statement_of ts) n ds) (All-take HasOneSort n (statements_of ts ds) h.sorts);
 }
 
-pub book-take : (n : ℕ) (base : List Declaration) (ts : List Tree) (ls : List Line) (ds : List Stmt) (old : Book) → book_of base ts ls ds ≡ old
-    → book_of base ts (take n ls) (take n ds) ≡ record { base = old.base; trees = old.trees; steps = take n old.steps; done = take n old.done }
-book-take n base ts ls ds old same = rw (← same, take-map (step_of ts) n ls, take-map (statement_of ts) n ds) refl
+pub book-take : (n : ℕ) (th : Theory) (ts : List Tree) (ls : List Line) (ds : List Stmt) (old : Book) → book_of th ts ls ds ≡ old
+    → book_of th ts (take n ls) (take n ds) ≡ record { theory = old.theory; trees = old.trees; steps = take n old.steps; done = take n old.done }
+book-take n th ts ls ds old same = rw (← same, take-map (step_of ts) n ls, take-map (statement_of ts) n ds) refl

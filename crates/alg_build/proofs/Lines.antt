@@ -26,27 +26,27 @@ slice_get-seam (y ∷ ys) x = slice_get-seam ys x
 -- growth
 
 pub grows-self : (a : Book) → Grows a a
-grows-self a = record { base = refl; trees = Extends-self a.trees; steps = ([], sym (append-nil _)); done = ([], sym (append-nil _)) }
+grows-self a = record { theory = refl; trees = Extends-self a.trees; steps = ([], sym (append-nil _)); done = ([], sym (append-nil _)) }
 
 pub grows-same : (a b : Book) → b ≡ a → Grows a b
 grows-same a b e = rw e (grows-self a)
 
 pub grows-then : (a b c : Book) → Grows a b → Grows b c → Grows a c
 grows-then a b c p q = record {
-  base = q.base ∙ p.base;
+  theory = q.theory ∙ p.theory;
   trees = Extends-then a.trees b.trees c.trees p.trees q.trees;
   steps = (p.steps.0 ++ q.steps.0, q.steps.1 ∙ ap (λ l. l ++ q.steps.0) p.steps.1 ∙ append_assoc a.steps p.steps.0 q.steps.0);
   done = (p.done.0 ++ q.done.0, q.done.1 ∙ ap (λ l. l ++ q.done.0) p.done.1 ∙ append_assoc a.done p.done.0 q.done.0);
 }
 
 pub keeps-grows : (a b : Book) → KeepsLines a b → Grows a b
-keeps-grows a b k = record { base = k.base; trees = k.trees; steps = ([], k.steps ∙ sym (append-nil _)); done = ([], k.done ∙ sym (append-nil _)) }
+keeps-grows a b k = record { theory = k.theory; trees = k.trees; steps = ([], k.steps ∙ sym (append-nil _)); done = ([], k.done ∙ sym (append-nil _)) }
 
 pub makes-grows : (a b : Book) (e : ExprId) (t : Tree) → Makes a b e t → Grows a b
 makes-grows a b e t m = keeps-grows a b m.keeps
 
 pub adds-grows : (a b : Book) (n : ℕ) (l : Step) (s : Statement) → Adds a b n l s → Grows a b
-adds-grows a b n l s p = record { base = p.base; trees = p.trees; steps = (l ∷ [], p.steps); done = (s ∷ [], p.done) }
+adds-grows a b n l s p = record { theory = p.theory; trees = p.trees; steps = (l ∷ [], p.steps); done = (s ∷ [], p.done) }
 
 take-front : {A : Type 0} (xs ys : List A) → take (length xs) (xs ++ ys) ≡ xs
 take-front xs ys = grind (arith, common_steps)
@@ -54,7 +54,7 @@ take-front xs ys = grind (arith, common_steps)
 -- after going back to a mark the lines are as they were there
 pub keeps : (a b : Book) (n : ℕ) → Grows a b → n ≡ length a.steps → length a.done ≡ length a.steps → KeepsLines a (record b { steps = take n b.steps; done = take n b.done })
 keeps a b n g e h = record {
-  base = g.base;
+  theory = g.theory;
   trees = g.trees;
   steps = rw (e, g.steps.1) (take-front a.steps g.steps.0);
   done = rw (e, g.done.1, ← h) (take-front a.done g.done.0);

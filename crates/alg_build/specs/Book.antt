@@ -5,22 +5,17 @@ use Rattle.alg_terms.specs.Tree.{Tree, Lit, Trees, of_list, Statement, equal}
 use Rattle.alg_expr.specs.declared.ids.ExprId.{ExprId}
 use Rattle.alg_expr.specs.Ids.{tree_of, IsIn}
 use Rattle.alg_expr.specs.Arena.{Extends}
-use Rattle.alg_law.specs.Declarations.{Declaration}
 use Rattle.alg_proof.specs.Steps.{Theory, Step, line_at, conclude}
 
 pub record Book : Type 0 where
-  -- the declarations
-  pub base : List Declaration
+  -- what the lines may rest on
+  pub theory : Theory
   -- the trees of the arena
   pub trees : List Tree
   -- the lines, over trees
   pub steps : List Step
   -- what the lines conclude
   pub done : List Statement
-
--- what the lines may rest on
-abbrev pub theory_of : Book → Theory
-theory_of b = record { declarations = b.base }
 
 abbrev pub nothing : Tree
 nothing = Lit Nat 0
@@ -61,26 +56,26 @@ rights_at b is = of_list (map (right_at b) is)
 
 -- nothing that was there is changed
 pub record Grows (a b : Book) : Type 0 where
-  pub base : b.base ≡ a.base
+  pub theory : b.theory ≡ a.theory
   pub trees : Extends a.trees b.trees
   pub steps : (more : List Step) × (b.steps ≡ a.steps ++ more)
   pub done : (more : List Statement) × (b.done ≡ a.done ++ more)
 
 -- trees may be new, and all else is as it was
 pub record KeepsLines (a b : Book) : Type 0 where
-  pub base : b.base ≡ a.base
+  pub theory : b.theory ≡ a.theory
   pub trees : Extends a.trees b.trees
   pub steps : b.steps ≡ a.steps
   pub done : b.done ≡ a.done
 
 -- one good line is new, of this number, with this conclusion; trees may be new
 pub record Adds (a b : Book) (n : ℕ) (l : Step) (s : Statement) : Type 0 where
-  pub base : b.base ≡ a.base
+  pub theory : b.theory ≡ a.theory
   pub trees : Extends a.trees b.trees
   pub steps : b.steps ≡ a.steps ++ l ∷ []
   pub done : b.done ≡ a.done ++ s ∷ []
   pub number : n ≡ length b.done
-  pub good : conclude (theory_of a) a.done l ≡ Ok s
+  pub good : conclude a.theory a.done l ≡ Ok s
 
 -- the id stands for this tree, and the lines are as they were
 pub record Makes (a b : Book) (e : ExprId) (t : Tree) : Type 0 where

@@ -5,20 +5,20 @@ use Rattle.alg_expr.specs.declared.ids.ExprId.{ExprId}
 use Rattle.alg_expr.specs.declared.ids.Stmt.{Stmt}
 use Rattle.alg_expr.specs.Ids.{statements_of, trees_at, IsIn, IsStatementIn}
 use Rattle.alg_expr.specs.Applying.{sorts_at}
-use Rattle.alg_law.specs.Declarations.{Declaration}
 use Rattle.alg_proof.specs.declared.lines.Line.{Line}
 use Rattle.alg_proof.specs.Lines.{steps_of, IsLineIn}
+use Rattle.alg_proof.specs.Steps.{Theory}
 use Rattle.alg_build.specs.Book.{Book, left_at, right_at}
 use Rattle.alg_build.specs.Good.{AreGood, HasOneSort}
 
-abbrev pub book_of : List Declaration → List Tree → List Line → List Stmt → Book
-book_of base ts lines done = record { base = base; trees = ts; steps = steps_of ts lines; done = statements_of ts done }
+abbrev pub book_of : Theory → List Tree → List Line → List Stmt → Book
+book_of th ts lines done = record { theory = th; trees = ts; steps = steps_of ts lines; done = statements_of ts done }
 
 -- the ids are of the arena, each line is good by those before it, and each conclusion has the sort of its sides
-pub record IsSound (base : List Declaration) (ts : List Tree) (lines : List Line) (done : List Stmt) : Type 0 where
+pub record IsSound (th : Theory) (ts : List Tree) (lines : List Line) (done : List Stmt) : Type 0 where
   pub lines_in : All (IsLineIn ts) lines
   pub done_in : All (IsStatementIn ts) done
-  pub good : AreGood (record { declarations = base }) (steps_of ts lines) (statements_of ts done)
+  pub good : AreGood th (steps_of ts lines) (statements_of ts done)
   pub sorts : All HasOneSort (statements_of ts done)
 
 -- these ids are the sides of these lines

@@ -5,4 +5,4 @@ use Rattle.alg_build.specs.Accepting.{good_accepted}
 use Rattle.alg_build.proofs.builder.Builder.into_parts.Goals as goal
 
 pub returns-clause-valid : goal.returns-clause-valid
-returns-clause-valid c = λ s. good_accepted (theory_of c.args.self) c.args.self.steps c.args.self.done s (subst (λ (b : Book). AreGood (theory_of b) b.steps b.done) c.self.view_is c.self.invariant.good)
+returns-clause-valid c = λ s. good_accepted (c.theory.args.self) c.args.self.steps c.args.self.done s (subst (λ (b : Book). AreGood (b.theory) b.steps b.done) c.self.view_is c.self.invariant.good)
