@@ -23,11 +23,13 @@ use Rattle.alg_law.specs.declared.marks.Mark.TheVariants.{Good, BadSort}
 use Rattle.alg_law.specs.Declarations.{Declaration}
 use Rattle.alg_law.specs.WellSorted.{symbol_mark, head_mark, sort_mark, built_in_mark, class_mark, has_classes, of_function, function_of, sorts_same, same_mark, sorts_of}
 use Rattle.alg_law.specs.WellSortedLaws.{worse-parts}
-use Rattle.alg_proof.specs.Steps.{Theory, Cong, line_at, conclude, value_sort, same_sort, second_of, name_mark, name_of, statements_at, left_sides, right_sides, all_equations, cong_of}
+use Rattle.alg_proof.specs.Steps.{Theory, Cong, conclude, value_sort, same_sort, second_of, name_mark, name_of, left_sides, right_sides, all_equations, cong_of}
+use Rattle.alg_proof.specs.Causes.{line_at, statements_at}
 use Rattle.alg_build.specs.Book.{Book, theory_of, fact, left_at, right_at, lefts_at, rights_at, IsEquation, KeepsLines, Makes}
 use Rattle.alg_build.specs.Good.{HasOneSort}
 use Rattle.alg_build.specs.Inside.{AreSides}
 use Rattle.alg_build.proofs.Concluding.{keeps_then}
+use Rattle.alg_build.proofs.Growing.{trees_at-extends}
 
 both_true : (a b : Bool) → (a && b) ≡ true → (a ≡ true) × (b ≡ true)
 both_true true b e = (refl, e)
@@ -140,13 +142,6 @@ sorts_at-extends ts us (e ∷ es) x h =
     let a : tree_of us e ≡ tree_of ts e = tree_of-extends ts us e x (All-head (IsIn ts) e es h) in
     let b : sorts_at us es ≡ sorts_at ts es = sorts_at-extends ts us es x (All-tail (IsIn ts) e es h) in
     λ i. sort_of_tree (a i) ∷ b i
-
-pub trees_at-extends : (ts us : List Tree) (es : List ExprId) → Extends ts us → All (IsIn ts) es → trees_at us es ≡ trees_at ts es
-trees_at-extends ts us [] x h = refl
-trees_at-extends ts us (e ∷ es) x h =
-    let a : tree_of us e ≡ tree_of ts e = tree_of-extends ts us e x (All-head (IsIn ts) e es h) in
-    let b : trees_at us es ≡ trees_at ts es = trees_at-extends ts us es x (All-tail (IsIn ts) e es h) in
-    λ i. a i ∷ b i
 
 -- the sides of some lines
 

@@ -8,13 +8,14 @@ use Rattle.std.proofs.lemmas.Grind.{common_steps}
 use Rattle.alg_terms.specs.Tree.{Tree, App, of_list, Statement}
 use Rattle.alg_expr.specs.declared.ids.ExprId.{ExprId}
 use Rattle.alg_expr.specs.declared.ids.Stmt.{Stmt}
-use Rattle.alg_expr.specs.Ids.{tree_of, IsIn, statement_of, statements_of, IsStatementIn}
+use Rattle.alg_expr.specs.Ids.{tree_of, trees_at, IsIn, statement_of, statements_of, IsStatementIn}
 use Rattle.alg_expr.specs.Arena.{Extends, GrowsBy, Imports, Extends-self, GrowsBy-Extends, IsIn-extends, tree_of-extends, statements_of-extends, IsStatementIn-extends}
 use Rattle.alg_law.specs.Declarations.{Declaration}
 use Rattle.alg_proof.specs.declared.lines.Line.{Line}
 use Rattle.alg_proof.specs.declared.lines.Line.TheVariants as line
 use Rattle.alg_proof.specs.Lines.{step_of, steps_of, IsLineIn}
-use Rattle.alg_proof.specs.Steps.{Theory, Step, Refl, conclude, line_at}
+use Rattle.alg_proof.specs.Steps.{Theory, Step, Refl, Law, Lemma, Bridge, conclude}
+use Rattle.alg_proof.specs.Causes.{line_at}
 use Rattle.alg_build.specs.Book.{Book, theory_of, KeepsLines, Makes}
 use Rattle.alg_build.specs.Good.{AreGood, none, one_more, HasOneSort}
 use Rattle.alg_build.specs.Inside.{book_of, IsSound}
@@ -27,21 +28,44 @@ pub imported : {E : Type 0} (old new : List Tree) (t : Tree) (r : Result ExprId 
 imported old new t (Ok e) g h = g.keeps
 imported old new t (Err m) g h = rw h (Extends-self old)
 
+pub trees_at-extends : (ts us : List Tree) (es : List ExprId) → Extends ts us → All (IsIn ts) es → trees_at us es ≡ trees_at ts es
+trees_at-extends ts us [] x h = refl
+trees_at-extends ts us (e ∷ es) x h =
+    let a : tree_of us e ≡ tree_of ts e = tree_of-extends ts us e x (All-head (IsIn ts) e es h) in
+    let b : trees_at us es ≡ trees_at ts es = trees_at-extends ts us es x (All-tail (IsIn ts) e es h) in
+    λ i. a i ∷ b i
+
 step_of-extends : (ts us : List Tree) (l : Line) → Extends ts us → IsLineIn ts l → step_of us l ≡ step_of ts l
 step_of-extends ts us (line.Refl e) x h = ap Refl (tree_of-extends ts us e x h)
 step_of-extends ts us (line.Symm i) x h = refl
 step_of-extends ts us (line.Trans i j) x h = refl
 step_of-extends ts us (line.Cong f is) x h = refl
+step_of-extends ts us (line.Subst i j k) x h = refl
+step_of-extends ts us (line.Law n s es is) x h = λ i. Law n s (trees_at-extends ts us es x h i) is
+step_of-extends ts us (line.Lemma n s es is) x h = λ i. Lemma n s (trees_at-extends ts us es x h i) is
+step_of-extends ts us (line.Hyp n) x h = refl
+step_of-extends ts us line.Rest x h = refl
 step_of-extends ts us (line.LitAdd s m n) x h = refl
 step_of-extends ts us (line.LitMul s m n) x h = refl
+step_of-extends ts us (line.LitRel r s m n) x h = refl
+step_of-extends ts us (line.Bridge k n e) x h = ap (Bridge k n) (tree_of-extends ts us e x h)
+step_of-extends ts us (line.Compute g s xs) x h = refl
 
 IsLineIn-extends : (ts us : List Tree) (l : Line) → Extends ts us → IsLineIn ts l → IsLineIn us l
 IsLineIn-extends ts us (line.Refl e) x h = IsIn-extends ts us e x h
 IsLineIn-extends ts us (line.Symm i) x h = tt
 IsLineIn-extends ts us (line.Trans i j) x h = tt
 IsLineIn-extends ts us (line.Cong f is) x h = tt
+IsLineIn-extends ts us (line.Subst i j k) x h = tt
+IsLineIn-extends ts us (line.Law n s es is) x h = λ k d l. IsIn-extends ts us _ x (h k d l)
+IsLineIn-extends ts us (line.Lemma n s es is) x h = λ k d l. IsIn-extends ts us _ x (h k d l)
+IsLineIn-extends ts us (line.Hyp n) x h = tt
+IsLineIn-extends ts us line.Rest x h = tt
 IsLineIn-extends ts us (line.LitAdd s m n) x h = tt
 IsLineIn-extends ts us (line.LitMul s m n) x h = tt
+IsLineIn-extends ts us (line.LitRel r s m n) x h = tt
+IsLineIn-extends ts us (line.Bridge k n e) x h = IsIn-extends ts us e x h
+IsLineIn-extends ts us (line.Compute g s xs) x h = tt
 
 steps_of-extends : (ts us : List Tree) (ls : List Line) → Extends ts us → All (IsLineIn ts) ls → steps_of us ls ≡ steps_of ts ls
 steps_of-extends ts us [] x h = refl

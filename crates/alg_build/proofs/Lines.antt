@@ -6,7 +6,8 @@ use Rattle.alg_terms.specs.Tree.{Tree, Statement, equal}
 use Rattle.alg_expr.specs.declared.ids.ExprId.{ExprId}
 use Rattle.alg_expr.specs.declared.memory.Memory.{Memory}
 use Rattle.alg_expr.specs.Arena.{Extends-self, Extends-then}
-use Rattle.alg_proof.specs.Steps.{Step, line_at}
+use Rattle.alg_proof.specs.Steps.{Step}
+use Rattle.alg_proof.specs.Causes.{line_at}
 use Rattle.alg_build.specs.Book.{Book, Grows, KeepsLines, Makes, Adds, Proves, IsEquation, left_at, right_at, fact, stated}
 use Rattle.alg_build.proofs.Concluding.{line_at-within}
 

@@ -3,7 +3,8 @@ use Rattle.std.specs.Prelude.{◌≡◌, ℕ, suc, ◌-◌, List, [], ◌∷◌,
 use Rattle.std.proofs.Common.{refl, ap, sym, ◌∙◌, arith, append-nil, append_assoc}
 use Rattle.alg_terms.specs.Tree.{Statement}
 use Rattle.alg_terms.specs.Order.{tree_same-self, sort_same-self, rel_same-self}
-use Rattle.alg_proof.specs.Steps.{Theory, Step, line_at, conclude}
+use Rattle.alg_proof.specs.Steps.{Theory, Step, conclude}
+use Rattle.alg_proof.specs.Causes.{line_at}
 use Rattle.alg_proof.specs.Valid.{verdict, verdict_from, go_on, ends_in, Accepted}
 use Rattle.alg_build.specs.Good.{AreGood, none, one_more}
 

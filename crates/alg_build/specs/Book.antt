@@ -5,7 +5,8 @@ use Rattle.alg_terms.specs.Tree.{Tree, Lit, Trees, of_list, Statement, equal}
 use Rattle.alg_expr.specs.declared.ids.ExprId.{ExprId}
 use Rattle.alg_expr.specs.Ids.{tree_of, IsIn}
 use Rattle.alg_expr.specs.Arena.{Extends}
-use Rattle.alg_proof.specs.Steps.{Theory, Step, line_at, conclude}
+use Rattle.alg_proof.specs.Steps.{Theory, Step, conclude}
+use Rattle.alg_proof.specs.Causes.{line_at}
 
 pub record Book : Type 0 where
   -- what the lines may rest on

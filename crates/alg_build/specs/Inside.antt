@@ -1,5 +1,5 @@
 -- The fields of a builder as a book.
-use Rattle.std.specs.Prelude.{◌≡◌, ℕ, List, All, map}
+use Rattle.std.specs.Prelude.{◌≡◌, ℕ, List, All, map, None}
 use Rattle.alg_terms.specs.Tree.{Tree}
 use Rattle.alg_expr.specs.declared.ids.ExprId.{ExprId}
 use Rattle.alg_expr.specs.declared.ids.Stmt.{Stmt}
@@ -7,9 +7,16 @@ use Rattle.alg_expr.specs.Ids.{statements_of, trees_at, IsIn, IsStatementIn}
 use Rattle.alg_expr.specs.Applying.{sorts_at}
 use Rattle.alg_proof.specs.declared.lines.Line.{Line}
 use Rattle.alg_proof.specs.Lines.{steps_of, IsLineIn}
+use Rattle.alg_proof.specs.declared.lemma_rows.LemmaRow.{LemmaRow}
+use Rattle.alg_proof.specs.LemmaRows.{rows_of}
 use Rattle.alg_proof.specs.Steps.{Theory}
+use Rattle.alg_law.specs.Declarations.{Declaration}
 use Rattle.alg_build.specs.Book.{Book, left_at, right_at}
 use Rattle.alg_build.specs.Good.{AreGood, HasOneSort}
+
+-- lines over these declarations and lemmas; no statement is given
+abbrev pub theory_over : List Declaration → List LemmaRow → Theory
+theory_over ds ls = record { declarations = ds; lemmas = rows_of ls; given = None }
 
 abbrev pub book_of : Theory → List Tree → List Line → List Stmt → Book
 book_of th ts lines done = record { theory = th; trees = ts; steps = steps_of ts lines; done = statements_of ts done }

@@ -7,23 +7,26 @@ ghost use Rattle.alg_law.specs.declared.classes.Class.TheVariants.{Semiring};
 ghost use Rattle.alg_law.specs.declared.marks.Mark.TheVariants.{Good};
 ghost use Rattle.alg_law.specs.Having.{has_class};
 ghost use Rattle.alg_law.specs.WellSorted.{IsWellSorted, sort_mark, head_mark, sorts_of};
-ghost use Rattle.alg_proof.specs.Steps.{conclude, line_at, Refl, Symm, Trans, Cong, LitAdd, LitMul};
+ghost use Rattle.alg_proof.specs.Steps.{conclude, Refl, Symm, Trans, Cong, LitAdd, LitMul};
+ghost use Rattle.alg_proof.specs.Causes.{line_at};
 ghost use Rattle.alg_proof.specs.Lines.{step_of, steps_of, IsLineIn};
 ghost use Rattle.alg_proof.specs.Valid.{IsValid};
-ghost use Rattle.alg_build.specs.Book.{theory_of, fact, left_at, right_at, lefts_at, rights_at, IsThere, IsEquation, KeepsLines, Adds, Makes};
+ghost use Rattle.alg_build.specs.Book.{fact, left_at, right_at, lefts_at, rights_at, IsThere, IsEquation, KeepsLines, Adds, Makes};
 ghost use Rattle.alg_build.specs.Good.{AreGood, HasOneSort};
-ghost use Rattle.alg_build.specs.Inside.{AreSides};
+ghost use Rattle.alg_build.specs.Inside.{AreSides, theory_over};
 
-use alg_expr::{Arena, ExprFault, ExprId, Memory, Rel, Sort, Stmt, Sym};
+use alg_expr::{Arena, ExprFault, ExprId, Items, Memory, Rel, Sort, Stmt, Sym};
 use alg_law::Base;
-use alg_proof::Line;
+use alg_proof::{Lemmas, Line};
 use std::alloc::Global;
 use std::marker::Model;
+use std::rc::Rc;
 
 /// Declarations, trees, and good lines over them. Lines are numbered from 1.
 #[derive(Drop)]
 pub struct Builder {
     base: Base,
+    lemmas: Rc<Lemmas>,
     arena: Arena,
     lines: Vec<Line>,
     // what the lines conclude
@@ -38,17 +41,18 @@ impl Model for Builder {
 
     ghost coded = { book_code };
 
-    ghost use Rattle.alg_build.specs.Inside.{book_of, IsSound};
+    ghost use Rattle.alg_build.specs.Inside.{theory_over, book_of, IsSound};
 
-    ghost view = { λ b. book_of b.base b.arena b.lines.items b.done.items };
+    ghost view = { λ b. book_of (theory_over b.base b.lemmas.value) b.arena b.lines.items b.done.items };
 
-    ghost invariant = { λ b. IsSound b.base b.arena b.lines.items b.done.items };
+    ghost invariant = { λ b. IsSound (theory_over b.base b.lemmas.value) b.arena b.lines.items b.done.items };
 }
 
 /// What a finished builder hands out, for the kernel.
 #[derive(Drop)]
 pub struct Parts {
     pub base: Base,
+    pub lemmas: Rc<Lemmas>,
     pub arena: Arena,
     pub lines: Vec<Line>,
 }
@@ -61,11 +65,13 @@ struct Sides {
 }
 
 impl Builder {
-    pub fn new(alloc: Global, base: Base) -> Result<Builder, Memory>
-        ensures { IfOk result (λ b. b ≡ record { base = base; trees = []; steps = []; done = [] }) }
+    /// A builder without lines, over these declarations and lemmas.
+    pub fn new(alloc: Global, base: Base, lemmas: Rc<Lemmas>) -> Result<Builder, Memory>
+        ensures { IfOk result (λ b. b ≡ record { theory = theory_over base lemmas.value; trees = []; steps = []; done = [] }) }
     {
         Ok(Builder {
             base,
+            lemmas,
             arena: Arena::new(alloc)?,
             lines: Vec::new(alloc),
             done: Vec::new(alloc),
@@ -78,7 +84,7 @@ impl Builder {
     }
 
     pub fn base(&self) -> &Base
-        ensures { result.now ≡ self.now.base }
+        ensures { result.now ≡ self.now.theory.declarations }
     {
         &self.base
     }
@@ -170,7 +176,7 @@ impl Builder {
     fn add(&mut self, line: Line, s: Stmt) -> Result<usize, Memory>
         requires line_in { IsLineIn self.old.trees line }
         requires statement_in { IsStatementIn self.old.trees s }
-        requires good { conclude (theory_of self.old) self.old.done (step_of self.old.trees line) ≡ Ok (statement_of self.old.trees s) }
+        requires good { conclude self.old.theory self.old.done (step_of self.old.trees line) ≡ Ok (statement_of self.old.trees s) }
         requires sorts { HasOneSort (statement_of self.old.trees s) }
         ensures ok { IfOk result (λ n. Adds self.old self.new n (step_of self.old.trees line) (statement_of self.old.trees s)) }
         ensures err { OnErr result (self.new ≡ self.old) }
@@ -189,7 +195,7 @@ impl Builder {
     /// `e = e`
     pub fn refl(&mut self, e: ExprId) -> Result<usize, Memory>
         requires here { IsIn self.old.trees e }
-        requires sorted { IsWellSorted self.old.base (tree_of self.old.trees e) }
+        requires sorted { IsWellSorted self.old.theory.declarations (tree_of self.old.trees e) }
         ensures adds { IfOk result (λ n. Adds self.old self.new n (Refl (tree_of self.old.trees e)) (equal (tree_of self.old.trees e) (tree_of self.old.trees e))) }
         ensures err { OnErr result (self.new ≡ self.old) }
     {
@@ -224,8 +230,8 @@ impl Builder {
 
     /// `m + n = r` for literals of the sort.
     pub fn lit_add(&mut self, sort: Sort, m: u128, n: u128) -> Result<usize, Memory>
-        requires known { sort_mark self.old.base sort ≡ Good }
-        requires class { has_class self.old.base sort Semiring ≡ true }
+        requires known { sort_mark self.old.theory.declarations sort ≡ Good }
+        requires class { has_class self.old.theory.declarations sort Semiring ≡ true }
         requires small { m + n < 2 ^ 127 }
         ensures adds { IfOk result (λ k. Adds self.old self.new k (LitAdd sort m n) (equal (sum_tree sort (Lit sort m) (Lit sort n)) (Lit sort (m + n)))) }
         ensures err { OnErr result (KeepsLines self.old self.new) }
@@ -236,8 +242,8 @@ impl Builder {
 
     /// `m * n = r` for literals of the sort.
     pub fn lit_mul(&mut self, sort: Sort, m: u128, n: u128) -> Result<usize, Memory>
-        requires known { sort_mark self.old.base sort ≡ Good }
-        requires class { has_class self.old.base sort Semiring ≡ true }
+        requires known { sort_mark self.old.theory.declarations sort ≡ Good }
+        requires class { has_class self.old.theory.declarations sort Semiring ≡ true }
         requires first { m < 2 ^ 127 }
         requires second { n < 2 ^ 127 }
         requires small { m * n < 2 ^ 127 }
@@ -281,7 +287,7 @@ impl Builder {
     /// `f(a..) = f(b..)`, where the lines of these numbers conclude `a = b` for each argument.
     pub fn cong(&mut self, sym: Sym, sort: Sort, parts: &[usize]) -> Result<usize, Memory>
         requires equations { All (IsEquation self.old) parts.now }
-        requires fits { head_mark self.old.base sym sort (sorts_of (lefts_at self.old parts.now)) ≡ Good }
+        requires fits { head_mark self.old.theory.declarations sym sort (sorts_of (lefts_at self.old parts.now)) ≡ Good }
         ensures adds { IfOk result (λ k. Adds self.old self.new k (Cong sym parts.now) (equal (App sym sort (lefts_at self.old parts.now)) (App sym sort (rights_at self.old parts.now)))) }
         ensures err { OnErr result (KeepsLines self.old self.new) }
     {
@@ -293,7 +299,7 @@ impl Builder {
     // the symbol over the left sides of these lines equals the symbol over their right sides
     fn applied(&mut self, sym: Sym, sort: Sort, parts: &[usize]) -> Result<Stmt, Memory>
         requires equations { All (IsEquation self.old) parts.now }
-        requires fits { head_mark self.old.base sym sort (sorts_of (lefts_at self.old parts.now)) ≡ Good }
+        requires fits { head_mark self.old.theory.declarations sym sort (sorts_of (lefts_at self.old parts.now)) ≡ Good }
         ensures here { IfOk result (λ s. IsStatementIn self.new.trees s) }
         ensures statement { IfOk result (λ s. statement_of self.new.trees s ≡ equal (App sym sort (lefts_at self.old parts.now)) (App sym sort (rights_at self.old parts.now))) }
         ensures keeps { KeepsLines self.old self.new }
@@ -341,27 +347,28 @@ impl Builder {
 
     /// What the kernel takes. It accepts the lines for what the last of them concludes.
     pub fn into_parts(self) -> Parts
-        ensures base { result.base ≡ self.base }
+        ensures theory { theory_over result.base result.lemmas.value ≡ self.theory }
         ensures arena { result.arena ≡ self.trees }
         ensures lines { steps_of result.arena result.lines.items ≡ self.steps }
         ensures lines_in { All (IsLineIn result.arena) result.lines.items }
-        ensures good { AreGood (theory_of self) self.steps self.done }
-        ensures valid { (s : Statement) → line_at self.done (length self.done) ≡ Some s → IsValid (theory_of self) self.steps s }
+        ensures good { AreGood self.theory self.steps self.done }
+        ensures valid { (s : Statement) → line_at self.done (length self.done) ≡ Some s → IsValid self.theory self.steps s }
     {
         Parts {
             base: self.base,
+            lemmas: self.lemmas,
             arena: self.arena,
             lines: self.lines,
         }
     }
 }
 
-fn numbers_of(alloc: Global, parts: &[usize]) -> Result<Vec<u128>, Memory>
-    ensures { IfOk result (λ ns. ns.items ≡ parts.now) }
+fn numbers_of(alloc: Global, parts: &[usize]) -> Result<Items<u128>, Memory>
+    ensures { IfOk result (λ ns. ns ≡ parts.now) }
 {
     let mut numbers: Vec<u128> = Vec::new(alloc);
     for i in parts {
         numbers.push(*i as u128)?;
     }
-    Ok(numbers)
+    Ok(Items::of(numbers))
 }

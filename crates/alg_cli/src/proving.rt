@@ -1,7 +1,7 @@
 ghost use Rattle.std.specs.Prelude.{◌≡◌, ◌≤◌, ℕ, length, IfOk, OnOk, Some, None};
 ghost use Rattle.alg_expr.specs.Ids.{IsStatementIn, statement_of};
 ghost use Rattle.alg_law.specs.Derivations.{Derivable};
-ghost use Rattle.alg_proof.specs.Steps.{line_at};
+ghost use Rattle.alg_proof.specs.Causes.{line_at};
 ghost use Rattle.alg_cli.specs.Trees.{States};
 ghost use Rattle.alg_cli.specs.Verdict.{verdict_of_goal, verdict_of_line};
 ghost use Rattle.alg_cli.specs.Entry.{verdict_of};

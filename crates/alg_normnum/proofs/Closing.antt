@@ -4,7 +4,7 @@ use Rattle.std.specs.Prelude.{Result, if◌then◌else◌, ⊤}
 use Rattle.alg_terms.specs.declared.sorts.Sort.TheVariants.{Nat}
 use Rattle.alg_terms.specs.declared.symbols.Sym.TheVariants.{Add, Mul}
 use Rattle.alg_terms.specs.Tree.{Tree, Lit, Statement, sort_of_tree, equal, sum_tree, product_tree}
-use Rattle.alg_proof.specs.Steps.{line_at}
+use Rattle.alg_proof.specs.Causes.{line_at}
 use Rattle.alg_build.specs.Book.{Book, Proves}
 use Rattle.alg_build.specs.declared.outcome.Outcome.TheVariants as outcome
 use Rattle.alg_build.specs.declared.outcome.TacFault.{TacFault}

@@ -3,7 +3,7 @@ use Rattle.std.specs.Prelude.{◌≡◌, ℕ, ◌<◌, ◌≤◌, ◌^◌, lengt
 use Rattle.alg_terms.specs.declared.sorts.Sort.TheVariants.{Nat}
 use Rattle.alg_terms.specs.declared.relations.Rel.TheVariants.{Eq}
 use Rattle.alg_terms.specs.Tree.{Tree, Lit, Statement, sum_tree, product_tree}
-use Rattle.alg_proof.specs.Steps.{line_at}
+use Rattle.alg_proof.specs.Causes.{line_at}
 use Rattle.alg_build.specs.Book.{Book}
 use Rattle.alg_build.specs.declared.outcome.Outcome.{Outcome}
 use Rattle.alg_build.specs.declared.outcome.Outcome.TheVariants as outcome

@@ -1,4 +1,6 @@
+use Rattle.alg_build.specs.Inside.{theory_over}
 use Rattle.std.proofs.Common.{◌≡◌, refl}
+use Rattle.alg_build.specs.Inside.{theory_over}
 use Rattle.alg_terms.specs.Tree.{Tree, App, of_list}
 use Rattle.alg_expr.specs.Ids.{trees_at}
 use Rattle.alg_build.proofs.Growing.{grown, sound-extends, makes_grown}
@@ -15,7 +17,7 @@ returns-clause-ok c =
     (elim c.match-app.branch [
       | in-Ok w ↦
           rw w.result-is
-          (makes_grown c.self.inside.base c.self.inside.arena c.app.new.self c.self.inside.lines.items c.self.inside.done.items _ w.in-Ok.e (App c.args.sym c.args.sort (of_list (trees_at c.self.inside.arena c.args.args.now)))
+          (makes_grown (theory_over c.self.inside.base c.self.inside.lemmas.value) c.self.inside.arena c.app.new.self c.self.inside.lines.items c.self.inside.done.items _ w.in-Ok.e (App c.args.sym c.args.sort (of_list (trees_at c.self.inside.arena c.args.args.now)))
           refl c.self.invariant w.in-Ok.ensures.ok)
       | in-Err w ↦ rw w.result-is tt
     ])
