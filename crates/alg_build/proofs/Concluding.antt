@@ -19,7 +19,7 @@ use Rattle.alg_law.specs.Declarations.{Declaration}
 use Rattle.alg_proof.specs.declared.lines.Line.{Line}
 use Rattle.alg_proof.specs.Steps.{Theory, Step, Trans, conclude}
 use Rattle.alg_proof.specs.Causes.{line_at}
-use Rattle.alg_build.specs.Book.{Book, theory_of, fact, stated, left_at, right_at, IsThere, IsEquation, KeepsLines, Adds, Makes}
+use Rattle.alg_build.specs.Book.{Book, fact, stated, left_at, right_at, IsThere, IsEquation, KeepsLines, Adds, Makes}
 use Rattle.alg_build.specs.Good.{HasOneSort}
 use Rattle.alg_build.specs.Inside.{book_of, IsSound}
 

@@ -25,7 +25,7 @@ use Rattle.alg_law.specs.WellSorted.{symbol_mark, head_mark, sort_mark, built_in
 use Rattle.alg_law.specs.WellSortedLaws.{worse-parts}
 use Rattle.alg_proof.specs.Steps.{Theory, Cong, conclude, value_sort, same_sort, second_of, name_mark, name_of, left_sides, right_sides, all_equations, cong_of}
 use Rattle.alg_proof.specs.Causes.{line_at, statements_at}
-use Rattle.alg_build.specs.Book.{Book, theory_of, fact, left_at, right_at, lefts_at, rights_at, IsEquation, KeepsLines, Makes}
+use Rattle.alg_build.specs.Book.{Book, fact, left_at, right_at, lefts_at, rights_at, IsEquation, KeepsLines, Makes}
 use Rattle.alg_build.specs.Good.{HasOneSort}
 use Rattle.alg_build.specs.Inside.{AreSides}
 use Rattle.alg_build.proofs.Concluding.{keeps_then}

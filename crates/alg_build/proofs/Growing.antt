@@ -16,7 +16,7 @@ use Rattle.alg_proof.specs.declared.lines.Line.TheVariants as line
 use Rattle.alg_proof.specs.Lines.{step_of, steps_of, IsLineIn}
 use Rattle.alg_proof.specs.Steps.{Theory, Step, Refl, Law, Lemma, Bridge, conclude}
 use Rattle.alg_proof.specs.Causes.{line_at}
-use Rattle.alg_build.specs.Book.{Book, theory_of, KeepsLines, Makes}
+use Rattle.alg_build.specs.Book.{Book, KeepsLines, Makes}
 use Rattle.alg_build.specs.Good.{AreGood, none, one_more, HasOneSort}
 use Rattle.alg_build.specs.Inside.{book_of, IsSound}
 

@@ -1,11 +1,13 @@
 use crate::{Builder, Memory};
 use alg_expr::{Arena, Rel, Sort, Stmt};
 use alg_law::Base;
+use alg_proof::Lemmas;
+use std::rc::Rc;
 
 #[test]
 fn a_sum_of_literals(rt: HostRuntime) -> Result<(), Memory> {
     let alloc = rt.alloc();
-    let mut cx = Builder::new(alloc, Base::new(alloc)?)?;
+    let mut cx = Builder::new(alloc, Base::new(alloc)?, Rc::new(alloc, Lemmas::new(alloc)?)?)?;
     let line = cx.lit_add(Sort::Nat, 2, 3)?;
     assert_eq!(rt; line, 1);
     assert_eq!(rt; cx.into_parts().lines.len(), 1);
@@ -17,7 +19,7 @@ fn a_statement_is_copied(rt: HostRuntime) -> Result<(), Memory> {
     let alloc = rt.alloc();
     let mut from = Arena::new(alloc)?;
     let two = from.lit(Sort::Nat, 2)?;
-    let mut cx = Builder::new(alloc, Base::new(alloc)?)?;
+    let mut cx = Builder::new(alloc, Base::new(alloc)?, Rc::new(alloc, Lemmas::new(alloc)?)?)?;
     let stmt = Stmt {
         rel: Rel::Le,
         sort: Sort::Nat,

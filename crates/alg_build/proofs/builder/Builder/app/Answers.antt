@@ -1,6 +1,5 @@
 use Rattle.alg_build.specs.Inside.{theory_over}
 use Rattle.std.proofs.Common.{◌≡◌, refl}
-use Rattle.alg_build.specs.Inside.{theory_over}
 use Rattle.alg_terms.specs.Tree.{Tree, App, of_list}
 use Rattle.alg_expr.specs.Ids.{trees_at}
 use Rattle.alg_build.proofs.Growing.{grown, sound-extends, makes_grown}

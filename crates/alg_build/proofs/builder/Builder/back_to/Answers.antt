@@ -1,6 +1,5 @@
 use Rattle.alg_build.specs.Inside.{theory_over}
 use Rattle.alg_build.proofs.Growing.{sound-take, book-take}
-use Rattle.alg_build.specs.Inside.{theory_over}
 use Rattle.alg_build.proofs.Concluding.{last_is}
 use Rattle.alg_build.proofs.builder.Builder.back_to.Goals as goal
 

@@ -1,6 +1,5 @@
 use Rattle.alg_build.specs.Inside.{theory_over}
 use Rattle.alg_expr.specs.Ids.{tree_of}
-use Rattle.alg_build.specs.Inside.{theory_over}
 use Rattle.alg_build.proofs.Growing.{imported, sound-extends, makes_imported}
 use Rattle.alg_build.proofs.builder.Builder.copy.Goals as goal
 

@@ -1,6 +1,5 @@
 use Rattle.alg_build.specs.Inside.{theory_over}
 use Rattle.alg_terms.specs.Tree.{Lit}
-use Rattle.alg_build.specs.Inside.{theory_over}
 use Rattle.alg_build.proofs.Growing.{grown, sound-extends, makes}
 use Rattle.alg_build.proofs.builder.Builder.lit.Goals as goal
 
