@@ -67,10 +67,10 @@ module _ (b : Book) (x y : Tree) (m n i j : ℕ) (left : IsNumber b x m i) (righ
   right_sort : sort_of_tree (left_at b j) ≡ Nat
   right_sort = ap sort_of_tree (proves-left b j y (Lit Nat n) right.proves) ∙ value-nat y n right.value
 
-  pub sum_fits : head_mark b.base Add Nat (sorts_of (lefts_at b (i ∷ j ∷ []))) ≡ Good
+  pub sum_fits : head_mark b.theory.declarations Add Nat (sorts_of (lefts_at b (i ∷ j ∷ []))) ≡ Good
   sum_fits = rw (left_sort, right_sort) refl
 
-  pub product_fits : head_mark b.base Mul Nat (sorts_of (lefts_at b (i ∷ j ∷ []))) ≡ Good
+  pub product_fits : head_mark b.theory.declarations Mul Nat (sorts_of (lefts_at b (i ∷ j ∷ []))) ≡ Good
   product_fits = rw (left_sort, right_sort) refl
 
 -- the parts, then the law, then both together

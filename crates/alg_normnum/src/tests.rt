@@ -6,7 +6,9 @@ use crate::{Outcome, TacFault, norm_num};
 use alg_build::{Builder, Memory};
 use alg_expr::{ExprId, Rel, Sort, Stmt, Sym};
 use alg_law::Base;
+use alg_proof::Lemmas;
 use std::alloc::Global;
+use std::rc::Rc;
 
 const TOP: u128 = 0x7fff_ffff_ffff_ffff_ffff_ffff_ffff_ffff;
 
@@ -100,7 +102,7 @@ fn answer(cx: &mut Builder, left: ExprId, r: u128) -> Result<&'static str, Memor
 // l * m + n = r
 #[tactic(auto, using(crate::proofs::Making::making))]
 fn of_four(alloc: Global, l: u128, m: u128, n: u128, r: u128) -> Result<&'static str, Memory> {
-    let mut cx = Builder::new(alloc, Base::new(alloc)?)?;
+    let mut cx = Builder::new(alloc, Base::new(alloc)?, Rc::new(alloc, Lemmas::new(alloc)?)?)?;
     let left = two_factors(&mut cx, l, m)?;
     let left = plus(&mut cx, left, n)?;
     answer(&mut cx, left, r)
@@ -135,7 +137,7 @@ fn answers_to_small_goals(rt: HostRuntime) -> Result<(), Memory> {
 #[test]
 fn a_long_sum(rt: HostRuntime) -> Result<(), Memory> {
     for (times, r, want) in [(1_000, 1_000, "closed"), (1_000, 999, "goal is false")] {
-        let mut cx = Builder::new(rt.alloc(), Base::new(rt.alloc())?)?;
+        let mut cx = Builder::new(alloc, Base::new(alloc)?, Rc::new(alloc, Lemmas::new(alloc)?)?)?;
         let left = ones(&mut cx, times)?;
         assert_eq!(rt; answer(&mut cx, left, r)?, want);
     }
