@@ -1,5 +1,5 @@
 -- Declarations, and those that the code keeps.
-use Rattle.std.specs.Prelude.{◌≡◌, ℕ, List, [], ◌∷◌, map, ⊤, Option, Some, None}
+use Rattle.std.specs.Prelude.{ℕ, List, [], ◌∷◌, map, ⊤}
 use Rattle.alg_terms.specs.declared.sorts.Sort.{Sort}
 use Rattle.alg_terms.specs.Tree.{Tree, Statement}
 use Rattle.alg_expr.specs.Ids.{statement_of, IsStatementIn}
@@ -48,12 +48,3 @@ IsDeclaredIn ts (declared.Instance k c) = ⊤
 IsDeclaredIn ts (declared.Variable n s) = ⊤
 IsDeclaredIn ts (declared.Function n ss s) = ⊤
 IsDeclaredIn ts (declared.Hypothesis n h) = IsStatementIn ts h
-
--- the declaration of the code tells this one, whose trees may be anywhere
-abbrev pub Tells : Declared → Declaration → Type 0
-Tells d e = (ts : List Tree) × IsDeclaredIn ts d × (declaration_of ts d ≡ e)
-
--- the declaration that stands there, as this one of the code tells it in some arena
-abbrev pub TellsAt : Declared → Option Declaration → Type 0
-TellsAt d None = ⊥
-TellsAt d (Some e) = Tells d e

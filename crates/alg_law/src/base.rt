@@ -1,7 +1,7 @@
-ghost use Rattle.std.specs.Prelude.{◌≡◌, ◌+◌, ◌-◌, ◌^◌, ◌<◌, ◌≤◌, ◌||◌, ◌↔◌, IsTrue, [], ◌∷◌, ◌++◌, length, take, All, IfOk, OnOk, OnErr, MatchOption, slice_get};
+ghost use Rattle.std.specs.Prelude.{◌≡◌, ◌+◌, ◌-◌, ◌^◌, ◌<◌, ◌≤◌, ◌||◌, ◌↔◌, IsTrue, [], ◌∷◌, ◌++◌, length, take, All, IfOk, OnOk, OnErr, slice_get};
 ghost use Rattle.alg_expr.specs.Arena.{Extends};
 ghost use Rattle.alg_expr.specs.Ids.{statement_of, IsStatementIn};
-ghost use Rattle.alg_law.specs.Declarations.{declaration_of, declarations_of, IsDeclaredIn, TellsAt};
+ghost use Rattle.alg_law.specs.Declarations.{declaration_of, declarations_of, IsDeclaredIn};
 ghost use Rattle.alg_law.specs.Following.{MayFollow, AllMayFollow, IsWellFormed};
 ghost use Rattle.alg_law.specs.Having.{is_decl, instance_gives, instances_give, has_class, Has};
 ghost use Rattle.alg_law.specs.Lawful.{IsLawful};
@@ -13,6 +13,9 @@ use crate::declarations::Declared;
 use alg_expr::{Arena, Items, Memory, Sort, Stmt, Text};
 use std::alloc::Global;
 use std::marker::Model;
+
+#[cfg(test)]
+mod tests;
 
 /// The declarations of a goal in order, with the trees of its hypotheses. Contracts see their list.
 #[derive(Drop)]
@@ -60,19 +63,6 @@ impl Base {
         ensures lawful { IsLawful self.now }
     {
         self.declared.len()
-    }
-
-    /// The arena of the hypotheses' statements.
-    pub fn arena(&self) -> &Arena {
-        &self.arena
-    }
-
-    /// The declaration with this number, or none where it isn't below the length. The statement of a hypothesis is of
-    /// the base's arena.
-    pub fn get(&self, i: usize) -> Option<&Declared>
-        ensures { MatchOption result (slice_get self.now i ≡ None) (λ d. TellsAt d.now (slice_get self.now i)) }
-    {
-        self.declared.get(i)
     }
 
     /// All declarations, with the arena that their statements are of.

@@ -38,7 +38,7 @@ pub enum Binder<'a> {
     Instance(Name<'a>, Name<'a>),
 }
 
-fn read_names<'a>(alloc: Global, left: &mut Tokens<'a>) -> Result<Items<Name<'a>>, Memory>
+fn read_names<'a>(alloc: Global, left: &mut Tokens<'_, 'a>) -> Result<Items<Name<'a>>, Memory>
     ensures { IfOk result (λ ns. Some (ns, left.new) ≡ read_names left.old) }
 {
     let mut names = Vec::new(alloc);
@@ -48,7 +48,10 @@ fn read_names<'a>(alloc: Global, left: &mut Tokens<'a>) -> Result<Items<Name<'a>
     Ok(Items::of(names))
 }
 
-fn read_arrows<'a>(alloc: Global, left: &mut Tokens<'a>) -> Result<Option<Items<Name<'a>>>, Memory>
+fn read_arrows<'a>(
+    alloc: Global,
+    left: &mut Tokens<'_, 'a>,
+) -> Result<Option<Items<Name<'a>>>, Memory>
     ensures { IfOk result (λ o. option_map (λ ns. (ns, left.new)) o ≡ read_arrows left.old) }
 {
     let mut names = Vec::new(alloc);
@@ -61,7 +64,7 @@ fn read_arrows<'a>(alloc: Global, left: &mut Tokens<'a>) -> Result<Option<Items<
     Ok(Some(Items::of(names)))
 }
 
-fn skip_star<'a>(left: &mut Tokens<'a>) -> bool
+fn skip_star<'a>(left: &mut Tokens<'_, 'a>) -> bool
     ensures after { after_star left.old ≡ if result then Some left.new else None }
     ensures stays { result ≡ false → left.new ≡ left.old }
 {
@@ -74,7 +77,7 @@ fn skip_star<'a>(left: &mut Tokens<'a>) -> bool
     }
 }
 
-fn read_carrier<'a>(left: &mut Tokens<'a>) -> Domain<'a>
+fn read_carrier<'a>(left: &mut Tokens<'_, 'a>) -> Domain<'a>
     ensures { Some (result, left.new) ≡ read_carrier left.old }
 {
     if skip_star(left) {
@@ -84,7 +87,7 @@ fn read_carrier<'a>(left: &mut Tokens<'a>) -> Domain<'a>
     }
 }
 
-fn closes<'a>(left: &Tokens<'a>) -> bool
+fn closes<'a>(left: &Tokens<'_, 'a>) -> bool
     ensures { result ≡ closes left.now }
 {
     match left.first() {
@@ -95,7 +98,7 @@ fn closes<'a>(left: &Tokens<'a>) -> bool
 }
 
 // Whether a sort stands here, or a function's sorts, and no statement.
-fn looks_sorts<'a>(left: &Tokens<'a>) -> bool
+fn looks_sorts<'a>(left: &Tokens<'_, 'a>) -> bool
     ensures { result ≡ looks_sorts left.now }
 {
     match left.first() {
@@ -108,7 +111,7 @@ fn looks_sorts<'a>(left: &Tokens<'a>) -> bool
     }
 }
 
-fn read_sorts<'a>(alloc: Global, left: &mut Tokens<'a>) -> Result<Option<Domain<'a>>, Memory>
+fn read_sorts<'a>(alloc: Global, left: &mut Tokens<'_, 'a>) -> Result<Option<Domain<'a>>, Memory>
     ensures { IfOk result (λ o. option_map (λ d. (d, left.new)) o ≡ read_sorts left.old) }
 {
     let Some(first) = left.take_name() else {
@@ -120,7 +123,10 @@ fn read_sorts<'a>(alloc: Global, left: &mut Tokens<'a>) -> Result<Option<Domain<
     Ok(Some(Domain::Sorts(first, more)))
 }
 
-fn read_hypothesis<'a>(alloc: Global, left: &mut Tokens<'a>) -> Result<Option<Domain<'a>>, Memory>
+fn read_hypothesis<'a>(
+    alloc: Global,
+    left: &mut Tokens<'_, 'a>,
+) -> Result<Option<Domain<'a>>, Memory>
     ensures { IfOk result (λ o. option_map (λ d. (d, left.new)) o ≡ mapped Holds read_statement left.old) }
 {
     let Some(statement) = read_statement(alloc, left)? else {
@@ -129,7 +135,7 @@ fn read_hypothesis<'a>(alloc: Global, left: &mut Tokens<'a>) -> Result<Option<Do
     Ok(Some(Domain::Holds(statement)))
 }
 
-fn read_domain<'a>(alloc: Global, left: &mut Tokens<'a>) -> Result<Option<Domain<'a>>, Memory>
+fn read_domain<'a>(alloc: Global, left: &mut Tokens<'_, 'a>) -> Result<Option<Domain<'a>>, Memory>
     ensures { IfOk result (λ o. option_map (λ d. (d, left.new)) o ≡ read_domain left.old) }
 {
     if left.skip_fixed(Fixed::TypeWord) {
@@ -142,7 +148,7 @@ fn read_domain<'a>(alloc: Global, left: &mut Tokens<'a>) -> Result<Option<Domain
     }
 }
 
-fn read_typed<'a>(alloc: Global, left: &mut Tokens<'a>) -> Result<Option<Typed<'a>>, Memory>
+fn read_typed<'a>(alloc: Global, left: &mut Tokens<'_, 'a>) -> Result<Option<Typed<'a>>, Memory>
     ensures { IfOk result (λ o. option_map (λ t. (t, left.new)) o ≡ read_typed left.old) }
 {
     let Some(first) = left.take_name() else {
@@ -162,7 +168,7 @@ fn read_typed<'a>(alloc: Global, left: &mut Tokens<'a>) -> Result<Option<Typed<'
     }))
 }
 
-fn read_instance<'a>(left: &mut Tokens<'a>) -> Option<Binder<'a>>
+fn read_instance<'a>(left: &mut Tokens<'_, 'a>) -> Option<Binder<'a>>
     ensures { option_map (λ b. (b, left.new)) result ≡ read_instance left.old }
 {
     let class = left.take_name()?;
@@ -174,7 +180,7 @@ fn read_instance<'a>(left: &mut Tokens<'a>) -> Option<Binder<'a>>
 }
 
 // A binder in braces or brackets.
-fn read_braced<'a>(alloc: Global, left: &mut Tokens<'a>) -> Result<Option<Binder<'a>>, Memory>
+fn read_braced<'a>(alloc: Global, left: &mut Tokens<'_, 'a>) -> Result<Option<Binder<'a>>, Memory>
     ensures { IfOk result (λ o. option_map (λ b. (b, left.new)) o ≡ read_braced left.old) }
 {
     if left.skip_fixed(Fixed::OpenBrace) {
@@ -193,7 +199,7 @@ fn read_braced<'a>(alloc: Global, left: &mut Tokens<'a>) -> Result<Option<Binder
     }
 }
 
-fn read_binder<'a>(alloc: Global, left: &mut Tokens<'a>) -> Result<Option<Binder<'a>>, Memory>
+fn read_binder<'a>(alloc: Global, left: &mut Tokens<'_, 'a>) -> Result<Option<Binder<'a>>, Memory>
     ensures { IfOk result (λ o. option_map (λ b. (b, left.new)) o ≡ read_binder left.old) }
 {
     match left.first() {
@@ -212,7 +218,7 @@ fn read_binder<'a>(alloc: Global, left: &mut Tokens<'a>) -> Result<Option<Binder
     }
 }
 
-pub fn opens_binder<'a>(left: &Tokens<'a>) -> bool
+pub fn opens_binder<'a>(left: &Tokens<'_, 'a>) -> bool
     ensures { result ≡ opens_binder left.now }
 {
     match left.first() {
@@ -225,7 +231,7 @@ pub fn opens_binder<'a>(left: &Tokens<'a>) -> bool
 /// Reads binders as long as one opens.
 pub fn read_binders<'a>(
     alloc: Global,
-    left: &mut Tokens<'a>,
+    left: &mut Tokens<'_, 'a>,
 ) -> Result<Option<Items<Binder<'a>>>, Memory>
     ensures { IfOk result (λ o. option_map (λ bs. (bs, left.new)) o ≡ read_binders left.old) }
 {

@@ -44,7 +44,7 @@ pub enum Unread {
     Syntax,
 }
 
-fn read_goal<'a>(alloc: Global, left: &mut Tokens<'a>) -> Result<Option<Goal<'a>>, Memory>
+fn read_goal<'a>(alloc: Global, left: &mut Tokens<'_, 'a>) -> Result<Option<Goal<'a>>, Memory>
     ensures { IfOk result (λ o. option_map (λ g. (g, left.new)) o ≡ read_goal left.old) }
 {
     let Some(binders) = read_binders(alloc, left)? else {
@@ -72,7 +72,7 @@ fn read_goal<'a>(alloc: Global, left: &mut Tokens<'a>) -> Result<Option<Goal<'a>
     }))
 }
 
-fn read_import<'a>(left: &mut Tokens<'a>) -> Option<Command<'a>>
+fn read_import<'a>(left: &mut Tokens<'_, 'a>) -> Option<Command<'a>>
     ensures { option_map (λ c. (c, left.new)) result ≡ mapped command.Import name_first left.old }
 {
     match left.take_name() {
@@ -81,7 +81,10 @@ fn read_import<'a>(left: &mut Tokens<'a>) -> Option<Command<'a>>
     }
 }
 
-fn read_variable<'a>(alloc: Global, left: &mut Tokens<'a>) -> Result<Option<Command<'a>>, Memory>
+fn read_variable<'a>(
+    alloc: Global,
+    left: &mut Tokens<'_, 'a>,
+) -> Result<Option<Command<'a>>, Memory>
     ensures { IfOk result (λ o. option_map (λ c. (c, left.new)) o ≡ read_variable left.old) }
 {
     let Some(binders) = read_binders(alloc, left)? else {
@@ -93,7 +96,7 @@ fn read_variable<'a>(alloc: Global, left: &mut Tokens<'a>) -> Result<Option<Comm
     Ok(Some(Command::Variable(binders)))
 }
 
-fn read_theorem<'a>(alloc: Global, left: &mut Tokens<'a>) -> Result<Option<Command<'a>>, Memory>
+fn read_theorem<'a>(alloc: Global, left: &mut Tokens<'_, 'a>) -> Result<Option<Command<'a>>, Memory>
     ensures { IfOk result (λ o. option_map (λ c. (c, left.new)) o ≡ read_theorem left.old) }
 {
     let Some(name) = left.take_name() else {
@@ -105,7 +108,7 @@ fn read_theorem<'a>(alloc: Global, left: &mut Tokens<'a>) -> Result<Option<Comma
     Ok(Some(Command::Theorem(name, goal)))
 }
 
-fn read_example<'a>(alloc: Global, left: &mut Tokens<'a>) -> Result<Option<Command<'a>>, Memory>
+fn read_example<'a>(alloc: Global, left: &mut Tokens<'_, 'a>) -> Result<Option<Command<'a>>, Memory>
     ensures { IfOk result (λ o. option_map (λ c. (c, left.new)) o ≡ read_example left.old) }
 {
     let Some(goal) = read_goal(alloc, left)? else {
@@ -114,7 +117,7 @@ fn read_example<'a>(alloc: Global, left: &mut Tokens<'a>) -> Result<Option<Comma
     Ok(Some(Command::Example(goal)))
 }
 
-fn read_any<'a>(alloc: Global, left: &mut Tokens<'a>) -> Result<Option<Command<'a>>, Memory>
+fn read_any<'a>(alloc: Global, left: &mut Tokens<'_, 'a>) -> Result<Option<Command<'a>>, Memory>
     ensures { IfOk result (λ o. option_map (λ c. (c, left.new)) o ≡ read_any left.old) }
 {
     if left.skip_fixed(Fixed::Import) {
@@ -134,10 +137,7 @@ fn read_any<'a>(alloc: Global, left: &mut Tokens<'a>) -> Result<Option<Command<'
 }
 
 /// Reads a command, of which the tokens are all.
-pub fn read_command<'a>(
-    alloc: Global,
-    tokens: &'a [Token<'a>],
-) -> Result<Option<Command<'a>>, Memory>
+pub fn read_command<'a>(alloc: Global, tokens: &[Token<'a>]) -> Result<Option<Command<'a>>, Memory>
     ensures found { IfOk result (λ o. IfSome o (λ c. IsRead (signs tokens.now) c)) }
     // What is spelled so is read.
     ensures only { IfOk result (λ o. (c : declared.Command) → IsRead (signs tokens.now) c → o ≡ Some c) }
@@ -157,7 +157,7 @@ pub fn read_command<'a>(
 /// Reads a command within the limits.
 pub fn read_within_limits<'a>(
     alloc: Global,
-    tokens: &'a [Token<'a>],
+    tokens: &[Token<'a>],
 ) -> Result<Result<Command<'a>, Unread>, Memory>
     ensures { IfOk result (λ r. Answers (signs tokens.now) r) }
 {

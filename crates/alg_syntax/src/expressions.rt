@@ -37,7 +37,7 @@ fn may_be_argument<'a>(nodes: &Nodes<'a>, at_least: u8, head: usize, begins_line
 }
 
 // Whether the expression goes on with the next token.
-fn takes<'a>(nodes: &Nodes<'a>, at_least: u8, lhs: usize, left: &Tokens<'a>) -> bool
+fn takes<'a>(nodes: &Nodes<'a>, at_least: u8, lhs: usize, left: &Tokens<'_, 'a>) -> bool
     requires { lhs < length nodes.now }
     ensures { result ≡ takes at_least (tree_at nodes.now lhs) left.now }
 {
@@ -68,7 +68,7 @@ fn begin<'a>(
     nodes: &mut Nodes<'a>,
     waiting: &mut Vec<Waiting>,
     at_least: u8,
-    left: &mut Tokens<'a>,
+    left: &mut Tokens<'_, 'a>,
 ) -> Result<Option<Turn>, Memory>
     requires { FramesIn (length nodes.old) (reverse waiting.old.items) }
     ensures exact { IfOk result (λ o. (k : Run) → first_at k at_least (frames_of nodes.old (reverse waiting.old.items)) left.old ≡ option_and_then (λ x. k (mode_of nodes.new x) (frames_of nodes.new (reverse waiting.new.items)) left.new) o) }
@@ -109,7 +109,7 @@ fn longer<'a>(
     waiting: &mut Vec<Waiting>,
     at_least: u8,
     lhs: usize,
-    left: &mut Tokens<'a>,
+    left: &mut Tokens<'_, 'a>,
 ) -> Result<Option<Turn>, Memory>
     requires frames { FramesIn (length nodes.old) (reverse waiting.old.items) }
     requires lhs { lhs < length nodes.old }
@@ -138,7 +138,7 @@ fn longer<'a>(
 }
 
 // `: Name )`
-fn sort_first<'a>(left: &mut Tokens<'a>) -> Option<Name<'a>>
+fn sort_first<'a>(left: &mut Tokens<'_, 'a>) -> Option<Name<'a>>
     ensures { option_map (λ n. (n, left.new)) result ≡ sort_first left.old }
 {
     if !left.skip_fixed(Fixed::Colon) {
@@ -152,7 +152,7 @@ fn sort_first<'a>(left: &mut Tokens<'a>) -> Option<Name<'a>>
 }
 
 // What a parenthesis before the part makes with what follows it.
-fn wrap<'a>(begins_line: bool, part: usize, left: &mut Tokens<'a>) -> Option<Node<'a>>
+fn wrap<'a>(begins_line: bool, part: usize, left: &mut Tokens<'_, 'a>) -> Option<Node<'a>>
     ensures exact { (ts : List Tree) → option_map (λ n. (tree_of ts n, left.new)) result ≡ wrapped begins_line (tree_at ts part) left.old }
     ensures below { IfSome result (λ n. (k : ℕ) → part < k → IsBelow k n) }
     ensures smaller { IfSome result (λ n. length left.new < length left.old) }
@@ -176,7 +176,7 @@ fn close<'a>(
     waiting: &[Waiting],
     last: Waiting,
     part: usize,
-    left: &mut Tokens<'a>,
+    left: &mut Tokens<'_, 'a>,
 ) -> Result<Option<Turn>, Memory>
     requires frames { FramesIn (length nodes.old) (reverse waiting.now) }
     requires last { FrameIn (length nodes.old) last }
@@ -213,7 +213,7 @@ fn close<'a>(
 fn read_nodes<'a>(
     alloc: Global,
     nodes: &mut Nodes<'a>,
-    left: &mut Tokens<'a>,
+    left: &mut Tokens<'_, 'a>,
 ) -> Result<Option<usize>, Memory>
     ensures exact { IfOk result (λ o. option_map (λ id. (tree_at nodes.new id, left.new)) o ≡ read_expression left.old) }
     ensures within { IfOk result (λ o. IfSome o (λ id. id < length nodes.new)) }
@@ -284,7 +284,7 @@ impl<'a> Expression<'a> {
 /// Reads the longest expression at the front of the tokens.
 pub fn read_expression<'a>(
     alloc: Global,
-    left: &mut Tokens<'a>,
+    left: &mut Tokens<'_, 'a>,
 ) -> Result<Option<Expression<'a>>, Memory>
     ensures { IfOk result (λ o. option_map (λ e. (e, left.new)) o ≡ read_expression left.old) }
 {

@@ -8,12 +8,12 @@ use std::marker::Model;
 
 /// The tokens to come. Contracts see them as the grammar does.
 #[derive(Drop)]
-pub struct Tokens<'a> {
-    tokens: &'a [Token<'a>],
+pub struct Tokens<'t, 'a> {
+    tokens: &'t [Token<'a>],
     at: usize,
 }
 
-impl<'a> Model for Tokens<'a> {
+impl<'t, 'a> Model for Tokens<'t, 'a> {
     ghost use Rattle.std.specs.Prelude.{List};
     ghost use Rattle.alg_syntax.specs.declared.signs.Sign.{Sign};
 
@@ -55,14 +55,14 @@ pub fn is(word: Fixed, wanted: Fixed) -> bool
     number_of(word) == number_of(wanted)
 }
 
-impl<'a> Tokens<'a> {
-    pub fn of(tokens: &'a [Token<'a>]) -> Tokens<'a>
+impl<'t, 'a> Tokens<'t, 'a> {
+    pub fn of(tokens: &'t [Token<'a>]) -> Tokens<'t, 'a>
         ensures { result ≡ signs tokens.now }
     {
         Tokens { tokens, at: 0 }
     }
 
-    pub fn copy(&self) -> Tokens<'a>
+    pub fn copy(&self) -> Tokens<'t, 'a>
         ensures { result ≡ self.now }
     {
         Tokens {

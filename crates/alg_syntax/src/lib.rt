@@ -10,3 +10,5 @@ pub mod nodes;
 pub mod scripts;
 pub mod signs;
 pub mod statements;
+#[cfg(test)]
+mod tests;

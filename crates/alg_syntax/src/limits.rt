@@ -31,7 +31,7 @@ fn depth_after<'a>(depth: u16, sign: Sign<'a>) -> u16
     }
 }
 
-fn is_deep<'a>(left: &mut Tokens<'a>) -> bool
+fn is_deep(left: &mut Tokens<'_, '_>) -> bool
     ensures { result ≡ spec.is_deep 0 left.old }
 {
     let mut depth = 0;
@@ -47,7 +47,7 @@ fn is_deep<'a>(left: &mut Tokens<'a>) -> bool
 }
 
 /// Whether a command is too long, or nested too deep, to be read.
-pub fn is_too_deep<'a>(tokens: &'a [Token<'a>]) -> bool
+pub fn is_too_deep(tokens: &[Token<'_>]) -> bool
     ensures { result ≡ spec.too_deep (signs tokens.now) }
 {
     if tokens.len() > 4096 {

@@ -37,7 +37,7 @@ fn is_combination<'a>(name: &Name<'a>) -> bool
     name.text() == "linear_combination"
 }
 
-fn read_step<'a>(alloc: Global, left: &mut Tokens<'a>) -> Result<Option<Step<'a>>, Memory>
+fn read_step<'a>(alloc: Global, left: &mut Tokens<'_, 'a>) -> Result<Option<Step<'a>>, Memory>
     ensures { IfOk result (λ o. option_map (λ s. (s, left.new)) o ≡ read_step left.old) }
 {
     let Some(name) = left.take_name() else {
@@ -52,7 +52,7 @@ fn read_step<'a>(alloc: Global, left: &mut Tokens<'a>) -> Result<Option<Step<'a>
     Ok(Some(Step::Combination(name.begins_line(), proof)))
 }
 
-fn separates<'a>(left: &Tokens<'a>) -> bool
+fn separates<'a>(left: &Tokens<'_, 'a>) -> bool
     ensures { result ≡ separates left.now }
 {
     match left.first() {
@@ -62,7 +62,7 @@ fn separates<'a>(left: &Tokens<'a>) -> bool
     }
 }
 
-fn read_further<'a>(alloc: Global, left: &mut Tokens<'a>) -> Result<Option<Further<'a>>, Memory>
+fn read_further<'a>(alloc: Global, left: &mut Tokens<'_, 'a>) -> Result<Option<Further<'a>>, Memory>
     ensures { IfOk result (λ o. option_map (λ s. (s, left.new)) o ≡ read_further left.old) }
 {
     let semicolon = left.skip_fixed(Fixed::Semicolon);
@@ -72,7 +72,10 @@ fn read_further<'a>(alloc: Global, left: &mut Tokens<'a>) -> Result<Option<Furth
     Ok(Some(Further { semicolon, step }))
 }
 
-fn read_rest<'a>(alloc: Global, left: &mut Tokens<'a>) -> Result<Option<Items<Further<'a>>>, Memory>
+fn read_rest<'a>(
+    alloc: Global,
+    left: &mut Tokens<'_, 'a>,
+) -> Result<Option<Items<Further<'a>>>, Memory>
     ensures { IfOk result (λ o. option_map (λ s. (s, left.new)) o ≡ all_of read_further separates left.old) }
 {
     let mut further = Vec::new(alloc);
@@ -86,7 +89,10 @@ fn read_rest<'a>(alloc: Global, left: &mut Tokens<'a>) -> Result<Option<Items<Fu
 }
 
 /// Reads a script as long as a `;` or a name at the beginning of a line follows.
-pub fn read_script<'a>(alloc: Global, left: &mut Tokens<'a>) -> Result<Option<Script<'a>>, Memory>
+pub fn read_script<'a>(
+    alloc: Global,
+    left: &mut Tokens<'_, 'a>,
+) -> Result<Option<Script<'a>>, Memory>
     ensures { IfOk result (λ o. option_map (λ s. (s, left.new)) o ≡ read_script left.old) }
 {
     let Some(first) = read_step(alloc, left)? else {

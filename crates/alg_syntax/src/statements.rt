@@ -16,7 +16,7 @@ pub struct Statement<'a> {
     pub rhs: Expression<'a>,
 }
 
-fn take_relation<'a>(left: &mut Tokens<'a>) -> Option<Relation>
+fn take_relation<'a>(left: &mut Tokens<'_, 'a>) -> Option<Relation>
     ensures { option_map (λ r. (r, left.new)) result ≡ relation_first left.old }
 {
     match left.next() {
@@ -28,7 +28,7 @@ fn take_relation<'a>(left: &mut Tokens<'a>) -> Option<Relation>
 /// Reads a statement.
 pub fn read_statement<'a>(
     alloc: Global,
-    left: &mut Tokens<'a>,
+    left: &mut Tokens<'_, 'a>,
 ) -> Result<Option<Statement<'a>>, Memory>
     ensures { IfOk result (λ o. option_map (λ s. (s, left.new)) o ≡ read_statement left.old) }
 {

@@ -1,0 +1,5 @@
+pub mod Cuts
+pub mod Cutting
+pub mod Items
+pub mod Outcome
+pub mod Pieces
