@@ -99,10 +99,15 @@ fn answer(cx: &mut Builder, left: ExprId, r: u128) -> Result<&'static str, Memor
     }
 }
 
+fn empty(alloc: Global) -> Result<Builder, Memory> {
+    let lemmas = Rc::new(alloc, Lemmas::new(alloc)?)?;
+    Builder::new(alloc, Base::new(alloc)?, lemmas)
+}
+
 // l * m + n = r
 #[tactic(auto, using(crate::proofs::Making::making))]
 fn of_four(alloc: Global, l: u128, m: u128, n: u128, r: u128) -> Result<&'static str, Memory> {
-    let mut cx = Builder::new(alloc, Base::new(alloc)?, Rc::new(alloc, Lemmas::new(alloc)?)?)?;
+    let mut cx = empty(alloc)?;
     let left = two_factors(&mut cx, l, m)?;
     let left = plus(&mut cx, left, n)?;
     answer(&mut cx, left, r)
@@ -137,7 +142,7 @@ fn answers_to_small_goals(rt: HostRuntime) -> Result<(), Memory> {
 #[test]
 fn a_long_sum(rt: HostRuntime) -> Result<(), Memory> {
     for (times, r, want) in [(1_000, 1_000, "closed"), (1_000, 999, "goal is false")] {
-        let mut cx = Builder::new(alloc, Base::new(alloc)?, Rc::new(alloc, Lemmas::new(alloc)?)?)?;
+        let mut cx = empty(rt.alloc())?;
         let left = ones(&mut cx, times)?;
         assert_eq!(rt; answer(&mut cx, left, r)?, want);
     }
