@@ -27,14 +27,14 @@ both_in ts x y p q = All-cons (IsIn ts) x (y ∷ []) p (All-cons (IsIn ts) y [] 
 
 keeps_then : (a b c : Book) → KeepsLines a b → KeepsLines b c → KeepsLines a c
 keeps_then a b c p q = record {
-  base = q.base ∙ p.base;
+  theory = q.theory ∙ p.theory;
   trees = Extends-then a.trees b.trees c.trees p.trees q.trees;
   steps = q.steps ∙ p.steps;
   done = q.done ∙ p.done;
 }
 
 pub keeps_self : (a : Book) → KeepsLines a a
-keeps_self a = record { base = refl; trees = Extends-self a.trees; steps = refl; done = refl }
+keeps_self a = record { theory = refl; trees = Extends-self a.trees; steps = refl; done = refl }
 
 pub then_makes : (a b c : Book) (e : ExprId) (t : Tree) → KeepsLines a b → MakesNumeral b c e t → MakesNumeral a c e t
 then_makes a b c e t p q = record {

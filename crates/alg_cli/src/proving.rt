@@ -14,7 +14,9 @@ use alg_goal_line::{Goal, read_goal};
 use alg_kernel::{Checked, Refusal, accept};
 use alg_law::Base;
 use alg_normnum::norm_num;
+use alg_proof::Lemmas;
 use std::alloc::Global;
+use std::rc::Rc;
 
 fn state(cx: &mut Builder, goal: &Goal) -> Result<Stmt, Memory>
     ensures { IfOk result (λ s. States cx.new s goal.now) }
@@ -34,15 +36,17 @@ fn check(alloc: Global, mut cx: Builder, goal: Stmt, line: usize) -> Result<Chec
     requires here { IsStatementIn cx.trees goal }
     requires line_here { line ≤ length cx.done }
     requires line_is { line_at cx.done line ≡ Some (statement_of cx.trees goal) }
-    ensures { OnOk result (Derivable cx.base None (statement_of cx.trees goal)) }
+    requires nothing_given { cx.theory.given ≡ None }
+    ensures { OnOk result (Derivable cx.theory.declarations None (statement_of cx.trees goal)) }
 {
     cx.back_to(line);
     let Parts {
         base,
+        lemmas,
         mut arena,
         lines,
     } = cx.into_parts();
-    match accept(alloc, &base, &mut arena, goal, &lines) {
+    match accept(alloc, &lemmas, &base, &mut arena, None, goal, &lines) {
         Ok(checked) => Ok(checked),
         Err(Refusal::Memory) => Err(Memory),
         Err(_) => unreachable!(),
@@ -50,11 +54,16 @@ fn check(alloc: Global, mut cx: Builder, goal: Stmt, line: usize) -> Result<Chec
 }
 
 /// Proves a goal and has the kernel check the proof, or finds why the goal fails.
-pub(crate) fn prove_goal(alloc: Global, goal: &Goal) -> Result<Entry, Memory>
+pub(crate) fn prove_goal(
+    alloc: Global,
+    lemmas: &Rc<Lemmas>,
+    goal: &Goal,
+) -> Result<Entry, Memory>
     ensures { IfOk result (λ entry. verdict_of entry ≡ verdict_of_goal goal.now) }
 {
     let base = Base::new(alloc)?;
-    let mut cx = Builder::new(alloc, base)?;
+    let lemmas = lemmas.clone()?;
+    let mut cx = Builder::new(alloc, base, lemmas)?;
     let statement = state(&mut cx, goal)?;
     match norm_num(&mut cx, statement) {
         Ok(Outcome::Closed { line }) => {
@@ -69,11 +78,11 @@ pub(crate) fn prove_goal(alloc: Global, goal: &Goal) -> Result<Entry, Memory>
 }
 
 /// What the report says of a line that isn't empty.
-pub(crate) fn judge(alloc: Global, line: &[u8]) -> Result<Entry, Memory>
+pub(crate) fn judge(alloc: Global, lemmas: &Rc<Lemmas>, line: &[u8]) -> Result<Entry, Memory>
     ensures { IfOk result (λ entry. verdict_of entry ≡ verdict_of_line line.now) }
 {
     match read_goal(alloc, line)? {
-        Some(goal) => prove_goal(alloc, &goal),
+        Some(goal) => prove_goal(alloc, lemmas, &goal),
         None => Ok(Entry::Unsupported),
     }
 }

@@ -8,8 +8,12 @@ ghost use Rattle.alg_cli.specs.Plan.{Did, Says, events_of_all, plan_of};
 use crate::entries::{Entry, Tally};
 use crate::lines::first_line;
 use crate::proving::judge;
+use alg_expr::Memory;
 use alg_host::{Failed, Host};
+use alg_lemma::library;
+use alg_proof::Lemmas;
 use std::alloc::Global;
+use std::rc::Rc;
 
 /// Why the work on a file ends early.
 #[derive(Clone, Copy, Debug, PartialEq, Eq)]
@@ -55,6 +59,7 @@ fn say_last<H: Host>(alloc: Global, tally: &Tally, host: &mut H) -> Result<(), S
 // The work on a line that isn't empty.
 fn do_entry<H: Host>(
     alloc: Global,
+    lemmas: &Rc<Lemmas>,
     number: u64,
     line: &[u8],
     tally: &mut Tally,
@@ -66,7 +71,7 @@ fn do_entry<H: Host>(
     ensures kept { result ≢ Err Stop.HostFailed → H.faults host.new ≡ H.faults host.old }
     ensures failed { IsErrOf result Stop.HostFailed → HasRisen (H.faults host.old) (H.faults host.new) }
 {
-    let entry = match judge(alloc, line) {
+    let entry = match judge(alloc, lemmas, line) {
         Ok(entry) => entry,
         Err(_) => return Err(Stop::Memory),
     };
@@ -78,6 +83,7 @@ fn do_entry<H: Host>(
 // The work on one line.
 fn do_line<H: Host>(
     alloc: Global,
+    lemmas: &Rc<Lemmas>,
     number: u64,
     line: &[u8],
     tally: &mut Tally,
@@ -92,11 +98,16 @@ fn do_line<H: Host>(
     if line.is_empty() {
         return Ok(());
     }
-    do_entry(alloc, number, line, tally, host)
+    do_entry(alloc, lemmas, number, line, tally, host)
 }
 
 // The work on all lines, without the last line of the report.
-fn do_lines<H: Host>(alloc: Global, bytes: &[u8], host: &mut H) -> Result<Tally, Stop>
+fn do_lines<H: Host>(
+    alloc: Global,
+    lemmas: &Rc<Lemmas>,
+    bytes: &[u8],
+    host: &mut H,
+) -> Result<Tally, Stop>
     requires { length bytes.now ≤ 2 ^ 24 }
     ensures told { Did (H.told host.old) (H.told host.new) (events_of_all (findings_of bytes.now)) result }
     ensures tally { IfOk result (λ tally. tally ≡ tally_of (findings_of bytes.now)) }
@@ -108,11 +119,17 @@ fn do_lines<H: Host>(alloc: Global, bytes: &[u8], host: &mut H) -> Result<Tally,
     let mut rest = Some(bytes);
     while let Some(text) = rest {
         let (line, after) = first_line(text);
-        do_line(alloc, number, line, &mut tally, host)?;
+        do_line(alloc, lemmas, number, line, &mut tally, host)?;
         number += 1;
         rest = after;
     }
     Ok(tally)
+}
+
+// the lemmas that proofs may cite
+fn shared_library(alloc: Global) -> Result<Rc<Lemmas>, Memory> {
+    let lemmas = library(alloc)?;
+    Ok(Rc::new(alloc, lemmas)?)
 }
 
 /// Says the report on a file, and answers whether all its goals are closed.
@@ -123,7 +140,11 @@ pub(crate) fn do_file<H: Host>(alloc: Global, bytes: &[u8], host: &mut H) -> Res
     ensures kept { result ≢ Err Stop.HostFailed → H.faults host.new ≡ H.faults host.old }
     ensures failed { IsErrOf result Stop.HostFailed → HasRisen (H.faults host.old) (H.faults host.new) }
 {
-    let tally = do_lines(alloc, bytes, host)?;
+    let lemmas = match shared_library(alloc) {
+        Ok(lemmas) => lemmas,
+        Err(_) => return Err(Stop::Memory),
+    };
+    let tally = do_lines(alloc, &lemmas, bytes, host)?;
     say_last(alloc, &tally, host)?;
     Ok(tally.all_closed())
 }

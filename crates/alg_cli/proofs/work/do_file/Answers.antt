@@ -1,6 +1,10 @@
-use Rattle.alg_cli.proofs.Reaching.{did_more, did_then, did_err, did_ok, did_plan}
+use Rattle.std.proofs.Common.{refl}
+use Rattle.alg_cli.proofs.Reaching.{did_none, did_more, did_then, did_err, did_ok, did_plan}
 use Rattle.alg_cli.proofs.Working.{plan_is}
 use Rattle.alg_cli.proofs.work.do_file.Goals as goal
+
+pub returns-in-Err-clause-told : goal.returns-in-Err-clause-told
+returns-in-Err-clause-told g c = did_none _ _ _ _ refl refl
 
 pub returns-in_err-tally-clause-told : goal.returns-in_err-tally-clause-told
 returns-in_err-tally-clause-told g c = did_more _ _ _ _ _ _ c.from_residual.ensures.0 c.do_lines.ensures.told
