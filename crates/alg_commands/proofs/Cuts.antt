@@ -1,7 +1,7 @@
 -- A command is cut off before the word that begins the next.
 use Rattle.std.proofs.Common.{◌≡◌, List, [], ◌∷◌, ◌++◌, Bool, true, false, cond, refl, sym, ap, ◌∙◌, append_assoc}
 use Rattle.std.proofs.lemmas.Bool.{cond-true, cond-false}
-use Rattle.std.specs.Prelude.{Option, Some, None, Result, Ok}
+use Rattle.std.specs.Prelude.{Some, None, Result, Ok}
 use Rattle.alg_lex.specs.declared.Token.{Token}
 use Rattle.alg_lex.specs.declared.LexFault.{LexFault}
 use Rattle.alg_lex.specs.Items.{Item}
@@ -9,7 +9,7 @@ use Rattle.alg_lex.specs.Answer.{seen, item_of}
 use Rattle.alg_commands.specs.declared.pieces.Piece.{Piece}
 use Rattle.alg_commands.specs.Pieces.{Keeps, Passes}
 use Rattle.alg_commands.specs.Cutting.{begins, is_begun, ahead_of, commands_of}
-use Rattle.alg_commands.specs.Cuts.{NoneBegins, IsOne, AreBegun, AreCommands, joined, IsCut}
+use Rattle.alg_commands.specs.Cuts.{NoneBegins, AreBegun, AreCommands, joined, IsCut}
 
 pub NoneBegins-push : (items : List Item) (item : Item) → NoneBegins items → begins item ≡ false → NoneBegins (items ++ item ∷ [])
 NoneBegins-push [] item none h = (h, tt)

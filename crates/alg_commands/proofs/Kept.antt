@@ -1,6 +1,6 @@
 -- What is kept when one more item was passed.
-use Rattle.std.proofs.Common.{◌≡◌, ℕ, suc, ◌+◌, ◌≤◌, ◌<◌, List, [], ◌∷◌, ◌++◌, length, take, Option, Some, None, refl, sym, subst, ap, ◌∙◌, arith, length-append}
-use Rattle.std.proofs.lemmas.List.{take_all, take-append-le, length-take, map-append, append-nil}
+use Rattle.std.proofs.Common.{◌≡◌, ℕ, ◌≤◌, ◌<◌, List, [], ◌∷◌, ◌++◌, length, take, Some, None, refl, sym, subst, ap, ◌∙◌, arith, length-append}
+use Rattle.std.proofs.lemmas.List.{take_all, take-append-le, length-take, map-append}
 use Rattle.alg_lex.specs.declared.Token.{Token}
 use Rattle.alg_lex.specs.declared.LexFault.{LexFault}
 use Rattle.alg_lex.specs.Items.{Item, token, fault}

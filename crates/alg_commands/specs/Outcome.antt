@@ -1,5 +1,5 @@
 -- What is read of the items of a command.
-use Rattle.std.specs.Prelude.{◌≡◌, List, [], ◌∷◌, Option, Some, None, Result, Ok, Err}
+use Rattle.std.specs.Prelude.{◌≡◌, List, [], ◌∷◌, Some, None, Result, Ok, Err}
 use Rattle.alg_lex.specs.Items.{Item}
 use Rattle.alg_syntax.specs.declared.commands.Command.{Command}
 use Rattle.alg_syntax.specs.declared.commands.Unread.TheVariants as unread

@@ -1,5 +1,5 @@
 -- What is kept of a command while it is passed.
-use Rattle.std.specs.Prelude.{◌≡◌, List, [], ◌∷◌, Option, Some, None, take}
+use Rattle.std.specs.Prelude.{◌≡◌, List, ◌∷◌, Option, Some, None, take}
 use Rattle.alg_lex.specs.declared.Token.{Token}
 use Rattle.alg_lex.specs.Items.{Item}
 use Rattle.alg_lex.specs.Answer.{seen}

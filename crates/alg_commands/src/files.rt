@@ -1,4 +1,4 @@
-ghost use Rattle.std.specs.Prelude.{◌≡◌, ◌≤◌, ◌^◌, [], ◌∷◌, length, IfOk, OnErr, MatchOption, List};
+ghost use Rattle.std.specs.Prelude.{◌≡◌, ◌≤◌, ◌^◌, [], ◌∷◌, length, IfOk, OnErr, MatchOption, List, Some};
 ghost use Rattle.std.specs.Str.{chars};
 ghost use Rattle.alg_lex.specs.Items.{items_from, beginning, Item};
 ghost use Rattle.alg_lex.specs.Answer.{item_of};
@@ -6,6 +6,7 @@ ghost use Rattle.alg_commands.specs.Cutting.{commands_of};
 ghost use Rattle.alg_commands.specs.Cuts.{IsCut};
 ghost use Rattle.alg_commands.specs.Pieces.{with_word};
 ghost use Rattle.alg_commands.specs.Outcome.{Gives};
+ghost use Rattle.alg_commands.specs.declared.readings.Reading as declared;
 
 use crate::items::next_item;
 use crate::pieces::pass;
@@ -70,7 +71,8 @@ impl<'a> Commands<'a> {
     }
 
     fn read_next(&mut self) -> Result<Option<Reading<'a>>, Memory>
-        ensures { IfOk result (λ o. MatchOption o ((self.old ≡ []) × (self.new ≡ [])) (λ r. Gives self.old r self.new)) }
+        ensures read { IfOk result (λ o. MatchOption o ((self.old ≡ []) × (self.new ≡ [])) (λ r. Gives self.old r self.new)) }
+        ensures only { IfOk result (λ o. (r : declared.Reading) (left : List (List Item)) → Gives self.old r left → o ≡ Some r) }
     {
         let word = self.word;
         self.word = None;
@@ -96,6 +98,8 @@ impl<'a> Commands<'a> {
     /// No more than 4,097 of a command's tokens are kept at a time, and nothing recurses.
     pub fn next(&mut self) -> Result<Option<Reading<'a>>, Memory>
         ensures read { IfOk result (λ o. MatchOption o ((self.old ≡ []) × (self.new ≡ [])) (λ r. Gives self.old r self.new)) }
+        // There is no other reading.
+        ensures only { IfOk result (λ o. (r : declared.Reading) (left : List (List Item)) → Gives self.old r left → o ≡ Some r) }
         ensures failed { OnErr result (self.new ≡ []) }
     {
         match self.read_next() {

@@ -1,5 +1,8 @@
-ghost use Rattle.std.specs.Prelude.{◌≡◌, IfOk, List};
+ghost use Rattle.std.specs.Prelude.{◌≡◌, IfOk, List, Result};
 ghost use Rattle.alg_lex.specs.Items.{Item};
+ghost use Rattle.alg_syntax.specs.declared.commands.Command as declared;
+ghost use Rattle.alg_commands.specs.declared.readings.Unreadable.{Unreadable};
+ghost use Rattle.alg_commands.specs.declared.readings.Reading.{Reading};
 ghost use Rattle.alg_commands.specs.Pieces.{Keeps};
 ghost use Rattle.alg_commands.specs.Outcome.{IsOutcome, IsReading};
 
@@ -33,7 +36,8 @@ fn read_command<'a>(
     alloc: Global,
     piece: &Piece<'a>,
 ) -> Result<Result<Command<'a>, Unreadable>, Memory>
-    ensures { IfOk result (λ r. (items : List Item) → Keeps items piece.now → IsOutcome items r) }
+    ensures outcome { IfOk result (λ r. (items : List Item) → Keeps items piece.now → IsOutcome items r) }
+    ensures only { IfOk result (λ r. (items : List Item) → Keeps items piece.now → (s : Result declared.Command Unreadable) → IsOutcome items s → s ≡ r) }
 {
     if let Some(fault) = piece.fault {
         return Ok(Err(Unreadable::Fault(fault)));
@@ -47,7 +51,8 @@ fn read_command<'a>(
 
 /// Reads a command that was passed.
 pub fn read<'a>(alloc: Global, piece: &Piece<'a>) -> Result<Reading<'a>, Memory>
-    ensures { IfOk result (λ r. (items : List Item) → Keeps items piece.now → IsReading items r) }
+    ensures reading { IfOk result (λ r. (items : List Item) → Keeps items piece.now → IsReading items r) }
+    ensures only { IfOk result (λ r. (items : List Item) → Keeps items piece.now → (s : Reading) → IsReading items s → s ≡ r) }
 {
     Ok(Reading {
         line: piece.line,

@@ -1,7 +1,8 @@
-ghost use Rattle.std.specs.Prelude.{◌≡◌, map, option_map};
+ghost use Rattle.std.specs.Prelude.{◌≡◌, All, map, option_map};
 ghost use Rattle.alg_law.specs.LawRows.{row_of};
 ghost use Rattle.alg_law.specs.Laws.{law_groups, law_table, row_named};
 ghost use Rattle.alg_law.specs.RowNames.{IsLawNamed};
+ghost use Rattle.alg_law.specs.TrueRows.{IsTrueRow};
 
 use crate::additive_laws::{multiple_laws, sum_laws};
 use crate::multiplicative_laws::{power_laws, product_laws};
@@ -11,8 +12,13 @@ use crate::ring_laws::{field_laws, semiring_laws, unequal_laws};
 use crate::rows::Law;
 
 /// The laws, in groups.
+///
+/// None is false where the integers can tell: with every sort but ℚ read as the integers, and ℕ as those from 0 up, each
+/// instance of each law holds where its premises do. Symbols mean there what they mean in Lean and Mathlib. Groups and
+/// fields can't be read so; their laws have no instance over the bases that the clause speaks of.
 pub fn laws() -> [&'static [Law]; 11]
-    ensures { map (λ g. map row_of g.now) result ≡ law_groups }
+    ensures table { map (λ g. map row_of g.now) result ≡ law_groups }
+    ensures none_false { All (All IsTrueRow) (map (λ g. map row_of g.now) result) }
 {
     [
         sum_laws(),

@@ -1,15 +1,14 @@
 -- Binders are read exactly.
-use Rattle.std.proofs.Common.{◌≡◌, ℕ, ◌≤◌, List, [], ◌∷◌, ◌++◌, length, Bool, true, false, cond, Option, Some, None, refl, sym, ap, subst, ◌∙◌, arith, append_assoc, length-append, ◌⊎◌, inl, inr}
-use Rattle.std.specs.Prelude.{option_map, option_and_then, is_some, ◌==◌}
+use Rattle.std.proofs.Common.{◌≡◌, ◌≤◌, List, [], ◌∷◌, ◌++◌, length, Bool, true, false, cond, Option, Some, None, refl, sym, ap, subst, ◌∙◌, arith, append_assoc, inl, inr}
+use Rattle.std.specs.Prelude.{option_map}
 use Rattle.std.proofs.lemmas.Option.{none-some, same_Some, some_pair_parts}
-use Rattle.std.proofs.lemmas.Bool.{cases_Bool, cond-true, cond-false, false≢true}
+use Rattle.std.proofs.lemmas.Bool.{cases_Bool, cond-true, cond-false}
 use Rattle.alg_syntax.specs.Written.{Written}
 use Rattle.alg_syntax.specs.declared.signs.Operator as operator
 use Rattle.alg_syntax.specs.declared.signs.Operator.TheVariants.{Add, Sub, Mul, Div, Mod, Smul, Pow}
-use Rattle.alg_syntax.specs.declared.signs.Fixed.TheVariants.{Colon, Arrow, OpenBrace, CloseBrace, OpenBracket, CloseBracket, TypeWord}
+use Rattle.alg_syntax.specs.declared.signs.Fixed.TheVariants.{Colon, OpenBrace, CloseBrace, OpenBracket, CloseBracket, TypeWord}
 use Rattle.alg_syntax.specs.declared.signs.Sign.{Sign}
 use Rattle.alg_syntax.specs.declared.signs.Sign.TheVariants.{Number, Name, Open, Close, Operator, Inverse, Relation, Fixed}
-use Rattle.alg_syntax.specs.declared.statements.Statement.{Statement}
 use Rattle.alg_syntax.specs.declared.binders.Domain.{Domain}
 use Rattle.alg_syntax.specs.declared.binders.Domain.TheVariants.{Carrier, Sorts, Holds}
 use Rattle.alg_syntax.specs.declared.binders.Typed.{Typed}
@@ -17,13 +16,13 @@ use Rattle.alg_syntax.specs.declared.binders.Binder.{Binder}
 use Rattle.alg_syntax.specs.declared.binders.Binder.TheVariants.{Explicit, Implicit, Instance}
 use Rattle.alg_syntax.specs.Expressions.{Tree, number, name, group, ascribed, minus, inverse, binary, apply, spell, Fits, Ends}
 use Rattle.alg_syntax.specs.Front.{after_fixed, after_close, name_first}
-use Rattle.alg_syntax.specs.Parsers.{Parser, mapped, both, behind, ahead, choice}
+use Rattle.alg_syntax.specs.Parsers.{mapped, both, behind, ahead, choice}
 use Rattle.alg_syntax.specs.Spelling.{spell_all, AllFit}
 use Rattle.alg_syntax.specs.Commands.{spell_statement, FitsStatement, spell_names, spell_arrows, spell_domain, FitsDomain, spell_typed, spell_binder, FitsBinder}
 use Rattle.alg_syntax.specs.Reading.{read_statement, read_names, has_arrow, read_arrows, after_times, after_star, closes, looks_sorts, read_carrier, read_sorts, read_domain, read_typed, read_instance, opens_binder, read_braced, read_binder, read_binders}
 use Rattle.alg_syntax.proofs.Levels.{starts, IsStart, a_number, a_name, an_open}
-use Rattle.alg_syntax.proofs.FrontLemmas.{and_then_some, map_some, after_fixed_spelled, after_close_spelled, name_first_spelled}
-use Rattle.alg_syntax.proofs.Readings.{Reads, Skips, skips_fixed, skips_close, reads_both, reads_behind, reads_ahead, reads_mapped, Made, mapped_made, refit, choice_cases}
+use Rattle.alg_syntax.proofs.FrontLemmas.{and_then_some, after_fixed_spelled}
+use Rattle.alg_syntax.proofs.Readings.{Reads, skips_fixed, skips_close, reads_both, reads_behind, reads_ahead, reads_mapped, mapped_made, refit, choice_cases}
 use Rattle.alg_syntax.proofs.Many.{Lists, reads_all}
 use Rattle.alg_syntax.proofs.StatementReadings.{Anywhere, reads_name, reads_names, reads_arrows, reads_statement, NoName, NoArrow}
 

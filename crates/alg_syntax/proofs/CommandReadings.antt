@@ -1,26 +1,26 @@
 -- Commands are read exactly.
-use Rattle.std.proofs.Common.{◌≡◌, ℕ, ◌≤◌, ◌<◌, List, [], ◌∷◌, ◌++◌, length, Bool, true, false, cond, Option, Some, None, refl, sym, ap, subst, ◌∙◌, arith, append_assoc, append-nil, length-append, ◌⊎◌, inl, inr}
+use Rattle.std.proofs.Common.{◌≡◌, ◌<◌, List, [], ◌∷◌, ◌++◌, length, Option, Some, None, refl, sym, ap, subst, ◌∙◌, arith, append-nil, inl, inr}
 use Rattle.std.specs.Prelude.{option_map, option_and_then, ◌==◌}
 use Rattle.std.proofs.lemmas.Option.{none-some, some_pair_parts}
-use Rattle.std.proofs.lemmas.Bool.{cases_Bool, cond-true, cond-false, false≢true, ne_eqb}
+use Rattle.std.proofs.lemmas.Bool.{cond-false, ne_eqb}
 use Rattle.alg_syntax.specs.Written.{Written}
 use Rattle.alg_syntax.specs.declared.signs.Fixed.TheVariants as word
 use Rattle.alg_syntax.specs.declared.signs.Fixed.TheVariants.{Colon, Assign, By}
 use Rattle.alg_syntax.specs.declared.signs.Sign.{Sign}
-use Rattle.alg_syntax.specs.declared.signs.Sign.TheVariants.{Number, Name, Open, Close, Operator, Inverse, Relation, Fixed}
+use Rattle.alg_syntax.specs.declared.signs.Sign.TheVariants.{Name, Fixed}
 use Rattle.alg_syntax.specs.declared.binders.Binder.{Binder}
 use Rattle.alg_syntax.specs.declared.commands.Goal.{Goal}
 use Rattle.alg_syntax.specs.declared.commands.Command.{Command}
 use Rattle.alg_syntax.specs.declared.commands.Command.TheVariants.{Import, Variable, Theorem, Example}
 use Rattle.alg_syntax.specs.Front.{after_fixed, name_first}
-use Rattle.alg_syntax.specs.Parsers.{Parser, mapped, both, behind, choice}
+use Rattle.alg_syntax.specs.Parsers.{mapped, both, behind, choice}
 use Rattle.alg_syntax.specs.Spelling.{spell_all, AllFit}
 use Rattle.alg_syntax.specs.Commands.{spell_statement, FitsStatement, spell_binder, FitsBinder, spell_script, FitsScript, spell_goal, FitsGoal, spell_command, FitsCommand, IsRead}
 use Rattle.alg_syntax.specs.Reading.{opens_binder, some_binders, read_statement, read_binders, read_script, read_goal, read_variable, read_theorem, read_example, read_any}
 use Rattle.alg_syntax.proofs.FrontLemmas.{and_then_some, after_fixed_spelled}
-use Rattle.alg_syntax.proofs.Readings.{Reads, skips_fixed, reads_both, reads_behind, reads_mapped, Made, mapped_made, refit, choice_cases}
+use Rattle.alg_syntax.proofs.Readings.{Reads, skips_fixed, reads_both, reads_behind, reads_mapped, mapped_made, refit, choice_cases}
 use Rattle.alg_syntax.proofs.StatementReadings.{Anywhere, reads_name, reads_statement}
-use Rattle.alg_syntax.proofs.BinderReadings.{reads_binders, NoBinder, binders_list}
+use Rattle.alg_syntax.proofs.BinderReadings.{reads_binders, NoBinder}
 use Rattle.alg_syntax.proofs.ScriptReadings.{reads_script, Nothing}
 
 pub reads_goal : Reads read_goal spell_goal FitsGoal Nothing

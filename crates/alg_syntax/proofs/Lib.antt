@@ -10,3 +10,4 @@ pub mod Turns
 pub mod BinderReadings
 pub mod ScriptReadings
 pub mod CommandReadings
+pub mod OneAnswer

@@ -1,12 +1,12 @@
 -- What is spelled is read by the machine.
-use Rattle.std.proofs.Common.{◌≡◌, ℕ, zero, suc, ◌+◌, ◌*◌, ◌≤◌, ◌<◌, List, [], ◌∷◌, ◌++◌, length, Bool, true, false, cond, Option, Some, None, refl, sym, ap, ◌∙◌, arith, append_assoc, length-append}
+use Rattle.std.proofs.Common.{◌≡◌, ℕ, zero, suc, ◌+◌, ◌*◌, ◌≤◌, List, [], ◌∷◌, ◌++◌, length, true, false, Some, refl, sym, ap, ◌∙◌, arith, append_assoc}
 use Rattle.std.specs.Prelude.{nat_le}
 use Rattle.std.proofs.lemmas.Bool.{and_from, le-leb, cond-true, cond-false}
 use Rattle.alg_syntax.specs.declared.signs.Sign.{Sign}
-use Rattle.alg_syntax.specs.declared.signs.Sign.TheVariants.{Number, Name, Open, Close, Operator, Inverse, Relation, Fixed}
+use Rattle.alg_syntax.specs.declared.signs.Sign.TheVariants.{Number, Name, Close, Operator, Inverse, Fixed}
 use Rattle.alg_syntax.specs.declared.signs.Fixed.TheVariants.{Colon}
-use Rattle.alg_syntax.specs.Expressions.{Tree, number, name, group, ascribed, minus, inverse, binary, apply, spell, tier, level_of, left_of, right_of, level, is_head, begins_line, Fits, Ends}
-use Rattle.alg_syntax.specs.Machine.{Found, takes, Mode, Begin, Go, Frame, In_minus, In_right, In_argument, In_group, Run, first_at, longer_at, whole_at, negated_at, run}
+use Rattle.alg_syntax.specs.Expressions.{Tree, number, name, group, ascribed, minus, inverse, binary, apply, spell, tier, level_of, left_of, right_of, level, begins_line, Fits, Ends}
+use Rattle.alg_syntax.specs.Machine.{takes, Begin, Go, Frame, In_minus, In_right, In_argument, In_group, Run, first_at, longer_at, whole_at, run}
 use Rattle.alg_syntax.proofs.Levels.{Follows, table, minus_table, right_high, follow_right, stop_right, stop_argument, follow_argument, starts, start_takes, start_line, start_follows, head_level, left_high, level_bounds, lowest, ends_follow, ends_stop, IsStart, a_number, a_name, an_open}
 
 pub record Continues (n m : ℕ) (c : Tree) (fs : List Frame) (rest : List Sign) : Type 0 where

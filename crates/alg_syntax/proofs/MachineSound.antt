@@ -1,7 +1,7 @@
 -- What the machine reads is spelled so.
-use Rattle.std.proofs.Common.{◌≡◌, ℕ, zero, suc, ◌+◌, ◌*◌, ◌≤◌, ◌<◌, List, [], ◌∷◌, ◌++◌, length, Bool, true, false, cond, ◌&&◌, not, Option, Some, None, refl, sym, ap, subst, ◌∙◌, arith, append_assoc, length-append, inl, inr}
+use Rattle.std.proofs.Common.{◌≡◌, ℕ, zero, suc, ◌≤◌, List, [], ◌∷◌, ◌++◌, Bool, true, false, not, Some, refl, sym, ap, subst, ◌∙◌, arith, append_assoc, inl, inr}
 use Rattle.std.specs.Prelude.{nat_le, option_and_then, option_map}
-use Rattle.std.proofs.lemmas.Bool.{and_parts, leb-true, cond-true, cond-false, true≢false, false≢true, cases_Bool}
+use Rattle.std.proofs.lemmas.Bool.{and_parts, leb-true, cond-true, cond-false, false≢true, cases_Bool}
 use Rattle.std.proofs.lemmas.Option.{some_pair_parts, none-some}
 use Rattle.alg_syntax.specs.Written.{Written}
 use Rattle.alg_syntax.specs.declared.signs.Operator as operator
@@ -11,8 +11,8 @@ use Rattle.alg_syntax.specs.declared.signs.Sign.TheVariants.{Number, Name, Open,
 use Rattle.alg_syntax.specs.declared.signs.Fixed.TheVariants.{Colon}
 use Rattle.alg_syntax.specs.Expressions.{Tree, number, name, group, ascribed, minus, inverse, binary, apply, spell, tier, level_of, left_of, right_of, level, is_head, begins_line, Fits}
 use Rattle.alg_syntax.specs.Front.{after_fixed, after_close, name_first}
-use Rattle.alg_syntax.specs.Machine.{Found, takes, Mode, Begin, Go, Frame, In_minus, In_right, In_argument, In_group, Run, first_at, longer_at, whole_at, grouped_at, wrapped, sort_first, negated_at, run}
-use Rattle.alg_syntax.proofs.Levels.{right_low, level_max, no_empty}
+use Rattle.alg_syntax.specs.Machine.{takes, Mode, Begin, Go, Frame, In_minus, In_right, In_argument, In_group, Run, first_at, longer_at, whole_at, grouped_at, wrapped, sort_first, negated_at, run}
+use Rattle.alg_syntax.proofs.Levels.{right_low, no_empty}
 use Rattle.alg_syntax.proofs.FrontLemmas.{and_then_some, map_some, after_fixed_spelled, after_close_spelled, name_first_spelled}
 
 -- A part of the level r, whose text and what is left are w, has its place in the frames. What is read in all is `all`.

@@ -1,10 +1,10 @@
 -- The trees of a list of nodes: what a push adds, and what stands at an index.
-use Rattle.std.proofs.Common.{◌≡◌, ℕ, zero, suc, ◌+◌, ◌<◌, ◌≤◌, List, [], ◌∷◌, ◌++◌, length, get_or, refl, ap, sym, ◌∙◌, subst, arith, append_assoc, append-nil, length-append, add-zero, zero-add, false}
+use Rattle.std.proofs.Common.{◌≡◌, ℕ, zero, suc, ◌+◌, ◌<◌, List, [], ◌∷◌, ◌++◌, length, get_or, refl, ap, sym, ◌∙◌, subst, arith, append_assoc, append-nil, length-append, add-zero, zero-add, false}
 use Rattle.std.proofs.Math.ListN.{get_or-append}
 use Rattle.std.proofs.Math.Seq.{get_or-append_seam}
 use Rattle.alg_syntax.specs.declared.nodes.Node.{Node}
 use Rattle.alg_syntax.specs.declared.nodes.Node.TheVariants as node
-use Rattle.alg_syntax.specs.Expressions.{Tree, number, name, group, ascribed, minus, inverse, binary, apply}
+use Rattle.alg_syntax.specs.Expressions.{Tree, number, group, ascribed, minus, inverse, binary, apply}
 use Rattle.alg_syntax.specs.Nodes.{tree_at, tree_of, trees_after, trees_of, IsBelow, AllBelow_from, AllBelow, Grows}
 
 pub trees_after-push : (ts : List Tree) (ns : List Node) (n : Node) → trees_after ts (ns ++ n ∷ []) ≡ trees_after ts ns ++ tree_of (trees_after ts ns) n ∷ []

@@ -1,14 +1,14 @@
 -- Scripts are read exactly.
-use Rattle.std.proofs.Common.{◌≡◌, ℕ, ◌≤◌, List, [], ◌∷◌, ◌++◌, length, Bool, true, false, ◌||◌, cond, Option, Some, None, refl, sym, ap, subst, ◌∙◌, arith, append_assoc, append-nil, length-append, ◌⊎◌, inl, inr}
-use Rattle.std.specs.Prelude.{option_map, option_and_then}
+use Rattle.std.proofs.Common.{◌≡◌, ◌≤◌, List, [], ◌∷◌, ◌++◌, length, Bool, true, false, ◌||◌, Option, Some, None, refl, sym, ap, subst, ◌∙◌, arith, append_assoc, length-append, inl, inr}
+use Rattle.std.specs.Prelude.{option_map}
 use Rattle.std.specs.Str.{bytes_eq}
-use Rattle.std.proofs.lemmas.Option.{none-some, some_pair_parts}
-use Rattle.std.proofs.lemmas.Bool.{cases_Bool, cond-true, cond-false, false≢true}
+use Rattle.std.proofs.lemmas.Option.{some_pair_parts}
+use Rattle.std.proofs.lemmas.Bool.{cases_Bool, cond-true, cond-false}
 use Rattle.std.proofs.lemmas.Slice.Eq.{bytes_eq-Decides}
 use Rattle.alg_syntax.specs.Written.{Written}
 use Rattle.alg_syntax.specs.declared.signs.Fixed.TheVariants.{Semicolon}
 use Rattle.alg_syntax.specs.declared.signs.Sign.{Sign}
-use Rattle.alg_syntax.specs.declared.signs.Sign.TheVariants.{Number, Name, Open, Close, Operator, Inverse, Relation, Fixed}
+use Rattle.alg_syntax.specs.declared.signs.Sign.TheVariants.{Name, Fixed}
 use Rattle.alg_syntax.specs.declared.scripts.Step.{Step}
 use Rattle.alg_syntax.specs.declared.scripts.Step.TheVariants.{Combination, Procedure}
 use Rattle.alg_syntax.specs.declared.scripts.Further.{Further}
@@ -16,14 +16,14 @@ use Rattle.alg_syntax.specs.declared.scripts.Script.{Script}
 use Rattle.alg_syntax.specs.Expressions.{Tree, spell, Fits, Ends}
 use Rattle.alg_syntax.specs.Front.{after_fixed, name_first}
 use Rattle.alg_syntax.specs.Machine.{read_expression}
-use Rattle.alg_syntax.specs.Parsers.{Parser, mapped, both, choice, all_of}
+use Rattle.alg_syntax.specs.Parsers.{mapped, choice, all_of}
 use Rattle.alg_syntax.specs.Spelling.{spell_all, AllFit}
 use Rattle.alg_syntax.specs.Commands.{combination, spell_step, begins_line, FitsStep, separator, spell_further, FitsFurther, spell_script, FitsScript}
 use Rattle.alg_syntax.specs.Reading.{step_at, read_step, read_further, separates, read_script}
-use Rattle.alg_syntax.proofs.FrontLemmas.{and_then_some, map_some, after_fixed_spelled, name_first_spelled}
-use Rattle.alg_syntax.proofs.Readings.{Reads, reads_both, reads_mapped, Made, mapped_made, choice_cases}
+use Rattle.alg_syntax.proofs.FrontLemmas.{and_then_some, after_fixed_spelled, name_first_spelled}
+use Rattle.alg_syntax.proofs.Readings.{Reads, reads_both, reads_mapped, mapped_made, choice_cases}
 use Rattle.alg_syntax.proofs.Many.{Lists, reads_all}
-use Rattle.alg_syntax.proofs.StatementReadings.{Anywhere, reads_expression}
+use Rattle.alg_syntax.proofs.StatementReadings.{reads_expression}
 
 -- is spelled so and fits
 abbrev pub IsStep : List Sign → Step → List Sign → Type 0

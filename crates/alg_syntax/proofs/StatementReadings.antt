@@ -1,25 +1,23 @@
 -- Statements and names are read exactly.
-use Rattle.std.proofs.Common.{◌≡◌, ℕ, suc, ◌*◌, ◌≤◌, List, [], ◌∷◌, ◌++◌, length, Bool, true, false, Option, Some, None, refl, sym, ap, subst, ◌∙◌, arith, append_assoc}
-use Rattle.std.specs.Prelude.{option_map, option_and_then, is_some}
-use Rattle.std.proofs.lemmas.Option.{none-some, same_Some, some_pair_parts}
-use Rattle.std.proofs.lemmas.Bool.{false≢true}
+use Rattle.std.proofs.Common.{◌≡◌, suc, ◌*◌, List, [], ◌∷◌, ◌++◌, length, false, Some, refl, ap, arith}
+use Rattle.std.proofs.lemmas.Option.{none-some, same_Some}
 use Rattle.alg_syntax.specs.Written.{Written}
 use Rattle.alg_syntax.specs.declared.signs.Relation as relation
 use Rattle.alg_syntax.specs.declared.signs.Fixed.TheVariants.{Arrow}
 use Rattle.alg_syntax.specs.declared.signs.Sign.{Sign}
 use Rattle.alg_syntax.specs.declared.signs.Sign.TheVariants.{Number, Name, Open, Close, Operator, Inverse, Relation, Fixed}
 use Rattle.alg_syntax.specs.declared.statements.Statement.{Statement}
-use Rattle.alg_syntax.specs.Expressions.{Tree, spell, Fits, Ends}
-use Rattle.alg_syntax.specs.Machine.{Begin, read_expression, run}
+use Rattle.alg_syntax.specs.Expressions.{spell, Fits, Ends}
+use Rattle.alg_syntax.specs.Machine.{Begin, read_expression}
 use Rattle.alg_syntax.specs.Front.{after_fixed, name_first}
 use Rattle.alg_syntax.specs.Parsers.{behind}
-use Rattle.alg_syntax.specs.Spelling.{spell_all, AllFit}
+use Rattle.alg_syntax.specs.Spelling.{AllFit}
 use Rattle.alg_syntax.specs.Commands.{spell_statement, FitsStatement, spell_names, spell_arrows}
 use Rattle.alg_syntax.specs.Reading.{relation_first, read_statement, has_name, read_names, has_arrow, read_arrows}
 use Rattle.alg_syntax.proofs.FrontLemmas.{name_first_spelled}
 use Rattle.alg_syntax.proofs.MachineSound.{sound}
 use Rattle.alg_syntax.proofs.MachineComplete.{reads_spelled}
-use Rattle.alg_syntax.proofs.Readings.{Reads, Skips, skips_fixed, reads_both, reads_behind, reads_mapped}
+use Rattle.alg_syntax.proofs.Readings.{Reads, skips_fixed, reads_both, reads_behind, reads_mapped}
 use Rattle.alg_syntax.proofs.Many.{Lists, reads_all}
 
 -- where anything may follow

@@ -1,8 +1,7 @@
 -- The turns of the code's loop.
-use Rattle.std.proofs.Common.{◌≡◌, ℕ, zero, suc, Bool, true, false, ◌+◌, ◌-◌, ◌*◌, ◌≤◌, ◌<◌, List, [], ◌∷◌, ◌++◌, length, reverse, get_or, Option, Some, None, refl, sym, ap, subst, ◌∙◌, arith, append_assoc, length-append, cond, IfSome, Bor}
+use Rattle.std.proofs.Common.{◌≡◌, ℕ, suc, true, false, ◌+◌, ◌-◌, ◌*◌, ◌≤◌, ◌<◌, List, [], ◌∷◌, ◌++◌, length, reverse, Option, Some, None, refl, sym, ap, subst, ◌∙◌, arith, append_assoc, length-append, IfSome}
 use Rattle.std.specs.Prelude.{option_and_then}
 use Rattle.std.proofs.lemmas.Bool.{cond-true, cond-false}
-use Rattle.std.proofs.lemmas.Option.{none-some}
 use Rattle.std.proofs.lemmas.List.{reverse-append}
 use Rattle.std.proofs.Math.Seq.{get_or-append_seam}
 use Rattle.alg_syntax.specs.declared.signs.Sign.{Sign}
@@ -10,11 +9,10 @@ use Rattle.alg_syntax.specs.declared.expressions.Waiting.{Waiting}
 use Rattle.alg_syntax.specs.declared.expressions.Waiting.TheVariants as waiting
 use Rattle.alg_syntax.specs.declared.expressions.Turn.{Turn}
 use Rattle.alg_syntax.specs.declared.expressions.Turn.TheVariants as turn
-use Rattle.alg_syntax.specs.declared.nodes.Node.{Node}
 use Rattle.alg_syntax.specs.Expressions.{Tree}
-use Rattle.alg_syntax.specs.Machine.{Found, takes, Mode, Begin, Go, Frame, In_minus, In_right, In_argument, In_group, Run, first_at, longer_at, whole_at, run, read_expression}
-use Rattle.alg_syntax.specs.Nodes.{tree_at, tree_of, Grows}
-use Rattle.alg_syntax.specs.Frames.{frame_of, frames_of, mode_of, FrameIn, FramesIn, TurnIn, weight, turns_left}
+use Rattle.alg_syntax.specs.Machine.{Found, takes, Begin, Go, Frame, In_minus, In_right, In_argument, In_group, Run, first_at, longer_at, whole_at, run, read_expression}
+use Rattle.alg_syntax.specs.Nodes.{tree_at, Grows}
+use Rattle.alg_syntax.specs.Frames.{frame_of, frames_of, mode_of, FrameIn, FramesIn, weight, turns_left}
 use Rattle.alg_syntax.proofs.NodeLemmas.{at_append}
 
 -- The code is where the machine is after t turns, and these are no more than it has passed.

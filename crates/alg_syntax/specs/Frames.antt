@@ -1,5 +1,5 @@
 -- What the reader keeps, as frames over expressions.
-use Rattle.std.specs.Prelude.{◌≡◌, ℕ, ◌+◌, ◌*◌, ◌≤◌, ◌<◌, List, [], ◌∷◌, length, ⊤}
+use Rattle.std.specs.Prelude.{ℕ, ◌+◌, ◌*◌, ◌<◌, List, [], ◌∷◌, length, ⊤}
 use Rattle.alg_syntax.specs.declared.signs.Sign.{Sign}
 use Rattle.alg_syntax.specs.declared.expressions.Waiting.{Waiting}
 use Rattle.alg_syntax.specs.declared.expressions.Waiting.TheVariants as waiting

@@ -1,5 +1,5 @@
 -- The reader of expressions: a machine over the signs, which keeps the parts that wait for a further part.
-use Rattle.std.specs.Prelude.{ℕ, zero, suc, ◌+◌, ◌*◌, List, [], ◌∷◌, length, Bool, true, false, cond, ◌&&◌, not, Option, Some, None, nat_le, option_map, option_and_then}
+use Rattle.std.specs.Prelude.{ℕ, zero, suc, ◌*◌, List, [], ◌∷◌, length, Bool, false, cond, ◌&&◌, not, Option, Some, None, nat_le, option_map, option_and_then}
 use Rattle.alg_syntax.specs.Written.{Written}
 use Rattle.alg_syntax.specs.declared.signs.Operator as operator
 use Rattle.alg_syntax.specs.declared.signs.Operator.TheVariants.{Add, Sub, Mul, Div, Mod, Smul, Pow}

@@ -1,5 +1,5 @@
 -- Nodes in a list, each behind its parts, and the expressions that they stand for.
-use Rattle.std.specs.Prelude.{◌≡◌, ℕ, suc, ◌<◌, List, [], ◌∷◌, ◌++◌, length, get_or, ⊤, false}
+use Rattle.std.specs.Prelude.{◌≡◌, ℕ, suc, ◌<◌, List, [], ◌∷◌, ◌++◌, get_or, ⊤, false}
 use Rattle.alg_syntax.specs.declared.nodes.Node.{Node}
 use Rattle.alg_syntax.specs.declared.nodes.Node.TheVariants as node
 use Rattle.alg_syntax.specs.Expressions.{Tree, number, name, group, ascribed, minus, inverse, binary, apply}

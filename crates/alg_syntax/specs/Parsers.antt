@@ -1,5 +1,5 @@
 -- Readers on lists of signs: what is read from the front, and what is left.
-use Rattle.std.specs.Prelude.{◌≡◌, ℕ, zero, suc, List, [], ◌∷◌, ◌++◌, length, Bool, true, false, cond, Option, Some, None, option_map, option_and_then}
+use Rattle.std.specs.Prelude.{ℕ, zero, suc, List, [], ◌∷◌, ◌++◌, length, Bool, cond, Option, Some, None, option_map, option_and_then}
 use Rattle.alg_syntax.specs.declared.signs.Sign.{Sign}
 
 abbrev pub Parser : Type 0 → Type 0

@@ -1,6 +1,7 @@
-ghost use Rattle.std.specs.Prelude.{◌≡◌, Some, IfOk, IfSome, option_map};
+ghost use Rattle.std.specs.Prelude.{◌≡◌, Some, Result, IfOk, IfSome, option_map};
 ghost use Rattle.alg_syntax.specs.declared.commands.Command as declared;
 ghost use Rattle.alg_syntax.specs.declared.commands.Command.TheVariants as command;
+ghost use Rattle.alg_syntax.specs.declared.commands.Unread.{Unread};
 ghost use Rattle.alg_syntax.specs.Parsers.{mapped};
 ghost use Rattle.alg_syntax.specs.Front.{name_first};
 ghost use Rattle.alg_syntax.specs.Signs.{signs};
@@ -159,7 +160,9 @@ pub fn read_within_limits<'a>(
     alloc: Global,
     tokens: &[Token<'a>],
 ) -> Result<Result<Command<'a>, Unread>, Memory>
-    ensures { IfOk result (λ r. Answers (signs tokens.now) r) }
+    ensures answer { IfOk result (λ r. Answers (signs tokens.now) r) }
+    // All tokens have one answer at most.
+    ensures unique { (r s : Result declared.Command Unread) → Answers (signs tokens.now) r → Answers (signs tokens.now) s → r ≡ s }
 {
     if is_too_deep(tokens) {
         return Ok(Err(Unread::TooDeep));

@@ -7,7 +7,7 @@ use Rattle.alg_law.proofs.law_table.first_named.Goals as goal
 
 pub loop-group-init : goal.loop-group-init
 unfolding law_table
-loop-group-init c = ap (λ g. row_named (rows_in g) c.args.name.now) c.laws-groups.ensures
+loop-group-init c = ap (λ g. row_named (rows_in g) c.args.name.now) c.laws-groups.ensures.table
 
 pub returns-in-Some : goal.returns-in-Some
 returns-in-Some c =

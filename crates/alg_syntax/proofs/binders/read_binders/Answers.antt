@@ -1,4 +1,4 @@
-use Rattle.std.proofs.Common.{◌≡◌, List, [], ◌∷◌, ◌++◌, Some, None, sym, ap, ◌∙◌}
+use Rattle.std.proofs.Common.{Some, sym, ap, ◌∙◌}
 use Rattle.alg_syntax.specs.Reading.{read_binder, opens_binder}
 use Rattle.alg_syntax.proofs.Many.{kept_on, read_out, read_fails, shorter, found_some, found_none}
 use Rattle.alg_syntax.proofs.BinderReadings.{binders_list}

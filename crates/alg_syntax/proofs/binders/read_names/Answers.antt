@@ -1,4 +1,4 @@
-use Rattle.std.proofs.Common.{◌≡◌, List, [], ◌∷◌, ◌++◌, Some, None, sym, ap, ◌∙◌}
+use Rattle.std.proofs.Common.{Some, ap, ◌∙◌}
 use Rattle.std.specs.Prelude.{is_some}
 use Rattle.alg_syntax.specs.Front.{name_first}
 use Rattle.alg_syntax.specs.Reading.{has_name}

@@ -1,4 +1,4 @@
-use Rattle.std.proofs.Common.{◌≡◌, List, Some, None, sym, ap, ◌∙◌}
+use Rattle.std.proofs.Common.{sym, ap, ◌∙◌}
 use Rattle.alg_syntax.specs.Signs.{signs}
 use Rattle.alg_syntax.specs.Reading.{read_any}
 use Rattle.alg_syntax.proofs.Many.{found_some, found_none}

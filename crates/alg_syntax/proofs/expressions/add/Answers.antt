@@ -1,8 +1,8 @@
-use Rattle.std.proofs.Common.{rules, ap, ◌∙◌, List, [], ◌∷◌, IfOk, reverse, length}
+use Rattle.std.proofs.Common.{ap, ◌∙◌, List, [], ◌∷◌, reverse}
 use Rattle.std.proofs.lemmas.Result.{IfOk-weaker}
 use Rattle.alg_syntax.specs.Expressions.{Tree}
-use Rattle.alg_syntax.specs.Nodes.{tree_at, tree_of}
-use Rattle.alg_syntax.specs.Frames.{frames_of, FramesIn}
+use Rattle.alg_syntax.specs.Nodes.{tree_of}
+use Rattle.alg_syntax.specs.Frames.{frames_of}
 use Rattle.alg_syntax.proofs.Turns.{pushed_at, frames_grown, made_in}
 use Rattle.alg_syntax.proofs.expressions.add.Goals as goal
 

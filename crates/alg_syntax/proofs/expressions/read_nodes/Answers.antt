@@ -1,9 +1,9 @@
-use Rattle.std.proofs.Common.{rules, arith, ◌≡◌, ℕ, ◌++◌, List, length, [], ◌∷◌, true, false, reverse, Some, None, sym, ◌∙◌, ap, subst}
+use Rattle.std.proofs.Common.{rules, ◌≡◌, ◌++◌, List, length, [], ◌∷◌, reverse, sym, ◌∙◌, ap, subst}
 use Rattle.alg_syntax.specs.declared.expressions.Waiting.{Waiting}
-use Rattle.alg_syntax.specs.Machine.{Run, first_at, longer_at, whole_at}
+use Rattle.alg_syntax.specs.Machine.{first_at, longer_at, whole_at}
 use Rattle.alg_syntax.specs.Nodes.{tree_at}
-use Rattle.alg_syntax.specs.Frames.{frame_of, frames_of, mode_of, FramesIn, weight}
-use Rattle.alg_syntax.proofs.Turns.{stepped, failed, at_begin, at_longer, at_whole, at_close, at_end, frame_in, if_some, at_waiting, fewer, fewer_popped}
+use Rattle.alg_syntax.specs.Frames.{frame_of, frames_of, FramesIn, weight}
+use Rattle.alg_syntax.proofs.Turns.{stepped, failed, at_begin, at_longer, at_close, at_end, if_some, at_waiting, fewer, fewer_popped}
 use Rattle.alg_syntax.proofs.expressions.read_nodes.Goals as goal
 
 pub reading-preserved-in-Begin : goal.reading-preserved-in-Begin

@@ -1,4 +1,4 @@
-use Rattle.std.proofs.Common.{◌≡◌, ◌≤◌, length}
+use Rattle.std.proofs.Common.{◌≡◌, length}
 use Rattle.alg_syntax.specs.Limits.{is_deep}
 use Rattle.alg_syntax.proofs.limits.is_deep.Given as goal
 

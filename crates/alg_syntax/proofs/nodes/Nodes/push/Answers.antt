@@ -1,4 +1,4 @@
-use Rattle.std.proofs.Common.{arith, length, ap, ◌∙◌, sym, subst, ◌≡◌, ℕ}
+use Rattle.std.proofs.Common.{arith, length, ap, ◌∙◌, subst, ◌≡◌, ℕ}
 use Rattle.alg_syntax.specs.Nodes.{trees_of, IsBelow}
 use Rattle.alg_syntax.proofs.NodeLemmas.{length-trees_of, push_grows, AllBelow-push}
 use Rattle.alg_syntax.proofs.nodes.Nodes.push.Goals as goal
