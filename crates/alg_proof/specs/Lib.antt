@@ -1,5 +1,12 @@
+pub mod Names
+pub mod Following
+pub mod LemmaRows
+pub mod Causes
+pub mod Instances
+pub mod LiteralLines
+pub mod Computing
+pub mod Computations
 pub mod Steps
-pub mod Valid
 pub mod Lines
+pub mod Valid
 pub mod LiteralSums
-pub mod Admissible
