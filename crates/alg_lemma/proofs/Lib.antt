@@ -1,0 +1,4 @@
+mod Alike
+mod Having
+mod Filled
+mod Following

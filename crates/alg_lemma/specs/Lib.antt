@@ -1,0 +1,5 @@
+pub mod Kinds
+pub mod Fitting
+pub mod Same
+pub mod Putting
+pub mod Proving
