@@ -3,3 +3,4 @@ pub mod Fitting
 pub mod Same
 pub mod Putting
 pub mod Proving
+pub mod FirstLemmas
