@@ -2,3 +2,4 @@ mod Alike
 mod Having
 mod Filled
 mod Following
+mod Adding

@@ -4,3 +4,4 @@ pub mod Same
 pub mod Putting
 pub mod Proving
 pub mod FirstLemmas
+pub mod Lemmas

@@ -189,7 +189,15 @@ proves rows r ls =
     statements_fit r.needs (letters_of r) r.premises
     && ends_with r.conclusion (conclusions rows r.needs (letters_of r) r.premises ls)
 
--- each of these lemmas is proved by its lines from the laws, these rows and the lemmas before it
-abbrev pub lines_prove : List Row → List LemmaRow → Bool
-lines_prove rows [] = true
-lines_prove rows (l ∷ ls) = proves rows (lemma_row_of l) (proof_of l) && lines_prove (rows ++ lemma_row_of l ∷ []) ls
+abbrev pub is_absent : Option Row → Bool
+is_absent None = true
+is_absent (Some r) = false
+
+-- the lemma has a new name, and its lines prove it from the laws and these rows
+abbrev pub may_join : List Row → LemmaRow → Bool
+may_join rows l = is_absent (row_named rows (lemma_row_of l).name) && proves rows (lemma_row_of l) (proof_of l)
+
+-- each of these lemmas may join these rows and the lemmas before it
+abbrev pub all_may_join : List Row → List LemmaRow → Bool
+all_may_join rows [] = true
+all_may_join rows (l ∷ ls) = may_join rows l && all_may_join (rows ++ lemma_row_of l ∷ []) ls

@@ -1,6 +1,6 @@
 ghost use Rattle.std.specs.Prelude.{◌≡◌, [], map, true};
 ghost use Rattle.alg_proof.specs.LemmaRows.{lemma_row_of};
-ghost use Rattle.alg_lemma.specs.Proving.{lines_prove};
+ghost use Rattle.alg_lemma.specs.Proving.{all_may_join};
 ghost use Rattle.alg_lemma.specs.FirstLemmas.{first_lemmas};
 
 use alg_law::law_words::{A, B, C, INVERSE, NEGATIVE, ONE, PLUS, TIMES, ZERO};
@@ -351,7 +351,7 @@ static FIRST_LEMMAS: [LemmaRow; 8] = [
 /// The first lemmas, each proved from the laws and those before it.
 pub fn first_lemmas() -> &'static [LemmaRow]
     ensures rows { map lemma_row_of result.now ≡ first_lemmas }
-    ensures proved { lines_prove [] result.now ≡ true }
+    ensures proved { all_may_join [] result.now ≡ true }
 {
     &FIRST_LEMMAS
 }
