@@ -231,7 +231,8 @@ module _ (ds : List Declaration) (s : Sort) where
       let alone : HaveAll (b ∷ []) = HaveAll-cons b [] h (λ c f. cc) in
       rw (all_of-head b) (HaveAll-cons b (tail_of (all_of b)) h (chained-have (b ∷ []) (tail_of (all_of b)) alone (all_of-chained b)))
 
-  gives-have : (bs : List Class) (c : Class) → HaveAll bs → gives bs c ≡ true → Has ds s c
+  -- what these classes give, the sort has where it has these
+  pub gives-have : (bs : List Class) (c : Class) → HaveAll bs → gives bs c ≡ true → Has ds s c
   gives-have [] c h e = cc
   gives-have (b ∷ bs) c h e =
       elim (or_parts (is_among (all_of b) c) (gives bs c) e) [

@@ -23,6 +23,8 @@ pub mod LawTableLaws
 pub mod LawRows
 pub mod RowNames
 pub mod LeanFunctions
+pub mod Computing
+pub mod ComputingLaws
 pub mod Derivations
 pub mod IntegerLaws
 pub mod IntegerPowers

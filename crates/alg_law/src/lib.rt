@@ -7,7 +7,7 @@ pub mod classes;
 mod combo;
 pub mod declarations;
 mod law_table;
-mod law_words;
+pub mod law_words;
 pub mod marks;
 mod multiplicative_laws;
 mod order_laws;

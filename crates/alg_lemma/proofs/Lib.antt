@@ -1,0 +1,5 @@
+mod Alike
+mod Having
+mod Filled
+mod Following
+mod Adding
