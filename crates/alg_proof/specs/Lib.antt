@@ -4,9 +4,11 @@ pub mod LemmaRows
 pub mod Causes
 pub mod Instances
 pub mod LiteralLines
-pub mod Computing
 pub mod Computations
 pub mod Steps
 pub mod Lines
 pub mod Valid
 pub mod LiteralSums
+pub mod PatternSorts
+pub mod PatternLaws
+pub mod LawSorts
