@@ -12,3 +12,9 @@ pub mod LiteralSums
 pub mod PatternSorts
 pub mod PatternLaws
 pub mod LawSorts
+pub mod Extending
+pub mod Derived
+pub mod LiteralOrder
+pub mod InstanceLaws
+pub mod ComputationLaws
+pub mod Admissible
