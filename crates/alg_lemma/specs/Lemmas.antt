@@ -3,9 +3,19 @@ use Rattle.std.specs.Prelude.{List, [], ◌∷◌}
 use Rattle.alg_law.specs.Rows.{Row}
 use Rattle.alg_law.specs.Laws.{rows_in}
 use Rattle.alg_lemma.specs.FirstLemmas.{first_lemmas}
+use Rattle.alg_lemma.specs.RearrangingLemmas.{rearranging_lemmas}
+use Rattle.alg_lemma.specs.NegationLemmas.{negation_lemmas}
+use Rattle.alg_lemma.specs.SignLemmas.{sign_lemmas}
+use Rattle.alg_lemma.specs.InverseLemmas.{inverse_lemmas}
+use Rattle.alg_lemma.specs.QuotientLemmas.{quotient_lemmas}
+use Rattle.alg_lemma.specs.FractionLemmas.{fraction_lemmas}
+use Rattle.alg_lemma.specs.FractionProductLemmas.{fraction_product_lemmas}
+use Rattle.alg_lemma.specs.FractionPowerLemmas.{fraction_power_lemmas}
+use Rattle.alg_lemma.specs.InequationLemmas.{inequation_lemmas}
+use Rattle.alg_lemma.specs.ComparisonLemmas.{comparison_lemmas}
 
 unfoldable pub lemma_groups : List (List Row)
-lemma_groups = first_lemmas ∷ []
+lemma_groups = first_lemmas ∷ rearranging_lemmas ∷ negation_lemmas ∷ sign_lemmas ∷ inverse_lemmas ∷ quotient_lemmas ∷ fraction_lemmas ∷ fraction_product_lemmas ∷ fraction_power_lemmas ∷ inequation_lemmas ∷ comparison_lemmas ∷ []
 
 -- the lemmas, one group after another
 unfoldable pub lemma_table : List Row

@@ -1,18 +1,41 @@
 ghost use Rattle.std.specs.Prelude.{◌≡◌, ◌++◌, ◌∷◌, [], map, true, IfOk, OnOk};
 ghost use Rattle.alg_proof.specs.LemmaRows.{lemma_row_of, rows_of};
-ghost use Rattle.alg_lemma.specs.Proving.{may_join, all_may_join};
+ghost use Rattle.alg_lemma.specs.Proving.{may_join, all_may_join, groups_may_join};
 ghost use Rattle.alg_lemma.specs.Lemmas.{lemma_groups, lemma_table};
 
+use crate::comparisons::comparison_lemmas;
 use crate::first_rows::first_lemmas;
+use crate::fraction_powers::fraction_power_lemmas;
+use crate::fraction_products::fraction_product_lemmas;
+use crate::fractions::fraction_lemmas;
+use crate::inequations::inequation_lemmas;
+use crate::inverses::inverse_lemmas;
+use crate::negations::negation_lemmas;
+use crate::quotients::quotient_lemmas;
+use crate::rearrangements::rearranging_lemmas;
+use crate::signs::sign_lemmas;
 use alg_expr::Memory;
 use alg_proof::{LemmaRow, Lemmas};
 use std::alloc::Global;
 
 /// The lemmas, in groups. Rows are only ever added at the end.
-pub fn lemmas() -> [&'static [LemmaRow]; 1]
-    ensures { map (λ g. map lemma_row_of g.now) result ≡ lemma_groups }
+pub fn lemmas() -> [&'static [LemmaRow]; 11]
+    ensures rows { map (λ g. map lemma_row_of g.now) result ≡ lemma_groups }
+    ensures proved { groups_may_join [] (map (λ g. g.now) result) ≡ true }
 {
-    [first_lemmas()]
+    [
+        first_lemmas(),
+        rearranging_lemmas(),
+        negation_lemmas(),
+        sign_lemmas(),
+        inverse_lemmas(),
+        quotient_lemmas(),
+        fraction_lemmas(),
+        fraction_product_lemmas(),
+        fraction_power_lemmas(),
+        inequation_lemmas(),
+        comparison_lemmas(),
+    ]
 }
 
 /// The table of all lemmas, each of which follows from the laws.
@@ -20,7 +43,9 @@ pub fn library(alloc: Global) -> Result<Lemmas, Memory>
     ensures { IfOk result (λ t. rows_of t ≡ lemma_table) }
 {
     let mut table = Lemmas::new(alloc)?;
-    add_all(&mut table, first_lemmas())?;
+    for group in lemmas() {
+        add_all(&mut table, group)?;
+    }
     Ok(table)
 }
 
