@@ -1,8 +1,9 @@
 -- Lemmas on the order of products and negations.
-use Rattle.std.specs.Prelude.{List, [], ◌∷◌, codes}
+use Rattle.std.specs.Prelude.{List, [], ◌∷◌, ◌++◌, codes}
 use Rattle.alg_law.specs.declared.classes.Class.TheVariants.{Field, IsStrictOrderedRing, Ring}
 use Rattle.alg_law.specs.Rows.{Row}
 use Rattle.alg_law.specs.LawWords.{a, b, c, absolute, at_most, equal, in_both, less, negative, number, over, times, whenever}
+use Rattle.alg_lemma.specs.InequationLemmas.{through_inequation_lemmas}
 
 -- where a * c < b * c and 0 < c: a < b
 abbrev pub lt_of_mul : Row
@@ -42,3 +43,7 @@ div_pos = whenever (codes "div_pos") (in_both Field IsStrictOrderedRing) (less (
 
 unfoldable pub comparison_lemmas : List Row
 comparison_lemmas = lt_of_mul ∷ le_of_mul ∷ neg_lt_neg ∷ neg_le_neg ∷ neg_lt_zero ∷ neg_lt_nonneg ∷ neg_le_nonneg ∷ abs_neg_lit ∷ div_pos ∷ []
+
+-- these and the lemmas before them
+abbrev pub through_comparison_lemmas : List Row
+through_comparison_lemmas = through_inequation_lemmas ++ comparison_lemmas

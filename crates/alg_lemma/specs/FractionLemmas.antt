@@ -1,8 +1,9 @@
 -- Lemmas on sums of fractions, and on fractions with other denominators.
-use Rattle.std.specs.Prelude.{List, [], ◌∷◌, codes}
+use Rattle.std.specs.Prelude.{List, [], ◌∷◌, ◌++◌, codes}
 use Rattle.alg_law.specs.declared.classes.Class.TheVariants.{Field}
 use Rattle.alg_law.specs.Rows.{Row}
 use Rattle.alg_law.specs.LawWords.{a, b, c, d, equal, in_a, number, over, plus, times, unequal, whenever}
+use Rattle.alg_lemma.specs.QuotientLemmas.{through_quotient_lemmas}
 
 -- where a * c = d, b * c = d and c ≠ 0: a = b
 abbrev pub eq_of_mul : Row
@@ -30,3 +31,7 @@ eq_div_of_mul = whenever (codes "eq_div_of_mul") (in_a Field) (equal (times a b)
 
 unfoldable pub fraction_lemmas : List Row
 fraction_lemmas = eq_of_mul ∷ div_add_same ∷ div_split ∷ div_join ∷ div_expand ∷ eq_div_of_mul ∷ []
+
+-- these and the lemmas before them
+abbrev pub through_fraction_lemmas : List Row
+through_fraction_lemmas = through_quotient_lemmas ++ fraction_lemmas

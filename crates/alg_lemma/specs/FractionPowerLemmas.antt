@@ -1,8 +1,9 @@
 -- Lemmas on powers of fractions, and on their signs.
-use Rattle.std.specs.Prelude.{List, [], ◌∷◌, codes}
+use Rattle.std.specs.Prelude.{List, [], ◌∷◌, ◌++◌, codes}
 use Rattle.alg_law.specs.declared.classes.Class.TheVariants.{AddGroup, Field}
 use Rattle.alg_law.specs.Rows.{Row}
 use Rattle.alg_law.specs.LawWords.{a, b, c, d, n, i, always, equal, in_a, integer_multiple, integer_negative, integer_power, inverse, negative, number, over, power, times, unequal, whenever}
+use Rattle.alg_lemma.specs.FractionProductLemmas.{through_fraction_product_lemmas}
 
 -- where a ^ n = c, b ^ n = d and b ≠ 0: (a / b) ^ n = c / d
 abbrev pub div_pow : Row
@@ -26,3 +27,7 @@ zsmul_neg_lit = whenever (codes "zsmul_neg_lit") (in_a AddGroup) (equal (integer
 
 unfoldable pub fraction_power_lemmas : List Row
 fraction_power_lemmas = div_pow ∷ div_of_inv ∷ neg_div ∷ zpow_neg_lit0 ∷ zsmul_neg_lit ∷ []
+
+-- these and the lemmas before them
+abbrev pub through_fraction_power_lemmas : List Row
+through_fraction_power_lemmas = through_fraction_product_lemmas ++ fraction_power_lemmas

@@ -1,8 +1,9 @@
 -- Lemmas on products of fractions.
-use Rattle.std.specs.Prelude.{List, [], ◌∷◌, codes}
+use Rattle.std.specs.Prelude.{List, [], ◌∷◌, ◌++◌, codes}
 use Rattle.alg_law.specs.declared.classes.Class.TheVariants.{Field}
 use Rattle.alg_law.specs.Rows.{Row}
 use Rattle.alg_law.specs.LawWords.{a, b, c, d, always, equal, in_a, number, over, times, unequal, whenever}
+use Rattle.alg_lemma.specs.FractionLemmas.{through_fraction_lemmas}
 
 -- a / b * (c / d) = a / d * (c / b)
 abbrev pub div_mul_swap : Row
@@ -26,3 +27,7 @@ mul_div_comm = always (codes "mul_div_comm") (in_a Field) (equal (times a (over 
 
 unfoldable pub fraction_product_lemmas : List Row
 fraction_product_lemmas = div_mul_swap ∷ div_mul_div ∷ mul_div_right ∷ mul_div_left ∷ mul_div_comm ∷ []
+
+-- these and the lemmas before them
+abbrev pub through_fraction_product_lemmas : List Row
+through_fraction_product_lemmas = through_fraction_lemmas ++ fraction_product_lemmas

@@ -1,8 +1,9 @@
 -- Lemmas on what is unequal.
-use Rattle.std.specs.Prelude.{List, [], ◌∷◌, codes}
+use Rattle.std.specs.Prelude.{List, [], ◌∷◌, ◌++◌, codes}
 use Rattle.alg_law.specs.declared.classes.Class.TheVariants.{AddCommGroup, Field, IsStrictOrderedRing}
 use Rattle.alg_law.specs.Rows.{Row}
 use Rattle.alg_law.specs.LawWords.{a, b, c, equal, in_a, less, negative, number, plus, times, unequal, whenever}
+use Rattle.alg_lemma.specs.FractionPowerLemmas.{through_fraction_power_lemmas}
 
 -- where a ≠ b: -a ≠ -b
 abbrev pub neg_ne_neg : Row
@@ -26,3 +27,7 @@ ne_zero_of_pos = whenever (codes "ne_zero_of_pos") (in_a IsStrictOrderedRing) (l
 
 unfoldable pub inequation_lemmas : List Row
 inequation_lemmas = neg_ne_neg ∷ neg_ne_pos ∷ pos_ne_neg ∷ ne_of_mul ∷ ne_zero_of_pos ∷ []
+
+-- these and the lemmas before them
+abbrev pub through_inequation_lemmas : List Row
+through_inequation_lemmas = through_fraction_power_lemmas ++ inequation_lemmas

@@ -1,8 +1,9 @@
 -- Lemmas on inverses in a field.
-use Rattle.std.specs.Prelude.{List, [], ◌∷◌, codes}
+use Rattle.std.specs.Prelude.{List, [], ◌∷◌, ◌++◌, codes}
 use Rattle.alg_law.specs.declared.classes.Class.TheVariants.{Field}
 use Rattle.alg_law.specs.Rows.{Row}
 use Rattle.alg_law.specs.LawWords.{a, b, always, equal, in_a, inverse, negative, number, times, unequal, whenever}
+use Rattle.alg_lemma.specs.SignLemmas.{through_sign_lemmas}
 
 -- where a ≠ 0 and a * b = 1: a⁻¹ = b
 abbrev pub inv_unique : Row
@@ -38,3 +39,7 @@ one_inv0 = always (codes "one_inv0") (in_a Field) (equal (inverse (number 1)) (n
 
 unfoldable pub inverse_lemmas : List Row
 inverse_lemmas = inv_unique ∷ inv_mul_cancel0 ∷ inv_inv0 ∷ mul_inv_cancel_right0 ∷ mul_inv0 ∷ neg_inv0 ∷ neg_inv_lit ∷ one_inv0 ∷ []
+
+-- these and the lemmas before them
+abbrev pub through_inverse_lemmas : List Row
+through_inverse_lemmas = through_sign_lemmas ++ inverse_lemmas

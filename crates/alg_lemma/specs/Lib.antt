@@ -15,4 +15,15 @@ pub mod FractionProductLemmas
 pub mod FractionPowerLemmas
 pub mod InequationLemmas
 pub mod ComparisonLemmas
+pub mod NodeSumLemmas
+pub mod NodePairLemmas
+pub mod NodeProductLemmas
+pub mod MergingLemmas
+pub mod WrittenTermLemmas
+pub mod CombinationLemmas
+pub mod MultipleLemmas
+pub mod MultipleSumLemmas
+pub mod WordLemmas
+pub mod PositivityLemmas
+pub mod FactorLemmas
 pub mod Lemmas

@@ -1,8 +1,9 @@
 -- Lemmas on negation, and on sums with a negation.
-use Rattle.std.specs.Prelude.{List, [], ◌∷◌, codes}
+use Rattle.std.specs.Prelude.{List, [], ◌∷◌, ◌++◌, codes}
 use Rattle.alg_law.specs.declared.classes.Class.TheVariants.{AddCommGroup, AddGroup}
 use Rattle.alg_law.specs.Rows.{Row}
 use Rattle.alg_law.specs.LawWords.{a, b, c, always, equal, in_a, negative, number, plus, whenever}
+use Rattle.alg_lemma.specs.RearrangingLemmas.{through_rearranging_lemmas}
 
 -- where a + b = 0: b = -a
 abbrev pub eq_neg_of_add : Row
@@ -34,3 +35,7 @@ add_neg_neg = whenever (codes "add_neg_neg") (in_a AddCommGroup) (equal (plus a 
 
 unfoldable pub negation_lemmas : List Row
 negation_lemmas = eq_neg_of_add ∷ neg_neg ∷ neg_zero ∷ neg_add_neg ∷ neg_add_neg_lit ∷ add_neg_pos ∷ add_neg_neg ∷ []
+
+-- these and the lemmas before them
+abbrev pub through_negation_lemmas : List Row
+through_negation_lemmas = through_rearranging_lemmas ++ negation_lemmas

@@ -1,8 +1,9 @@
 -- Lemmas on quotients in a field.
-use Rattle.std.specs.Prelude.{List, [], ◌∷◌, codes}
+use Rattle.std.specs.Prelude.{List, [], ◌∷◌, ◌++◌, codes}
 use Rattle.alg_law.specs.declared.classes.Class.TheVariants.{Field}
 use Rattle.alg_law.specs.Rows.{Row}
 use Rattle.alg_law.specs.LawWords.{a, b, c, d, n, always, equal, in_a, inverse, number, over, power, times, unequal, whenever}
+use Rattle.alg_lemma.specs.InverseLemmas.{through_inverse_lemmas}
 
 -- where a ≠ 0: (a ^ n)⁻¹ = a⁻¹ ^ n
 abbrev pub pow_inv0 : Row
@@ -34,3 +35,7 @@ div_mul_lit = whenever (codes "div_mul_lit") (in_a Field) (equal (times b c) d �
 
 unfoldable pub quotient_lemmas : List Row
 quotient_lemmas = pow_inv0 ∷ inv_eq_one_div ∷ div_one0 ∷ div_inv0 ∷ one_div_inv0 ∷ div_ne_zero ∷ div_mul_lit ∷ []
+
+-- these and the lemmas before them
+abbrev pub through_quotient_lemmas : List Row
+through_quotient_lemmas = through_inverse_lemmas ++ quotient_lemmas

@@ -1,8 +1,9 @@
 -- Lemmas that put sums and products in another order, and on products of powers.
-use Rattle.std.specs.Prelude.{List, [], ◌∷◌, codes}
+use Rattle.std.specs.Prelude.{List, [], ◌∷◌, ◌++◌, codes}
 use Rattle.alg_law.specs.declared.classes.Class.TheVariants.{AddCommGroup, AddCommMonoid, AddGroup, CommMonoid, Monoid}
 use Rattle.alg_law.specs.Rows.{Row}
 use Rattle.alg_law.specs.LawWords.{a, b, c, d, m, n, always, equal, in_a, natural_plus, natural_times, negative, plus, power, times, whenever}
+use Rattle.alg_lemma.specs.FirstLemmas.{through_first_lemmas}
 
 -- a + b + c = a + c + b
 abbrev pub add_right_comm : Row
@@ -38,3 +39,7 @@ pow_pow_of = whenever (codes "pow_pow_of") (in_a Monoid) (equal (power a (natura
 
 unfoldable pub rearranging_lemmas : List Row
 rearranging_lemmas = add_right_comm ∷ add_add_add_comm ∷ mul_right_comm ∷ mul_mul_mul_comm ∷ add_neg_cancel_left ∷ add_add_neg_cancel ∷ pow_mul_of ∷ pow_pow_of ∷ []
+
+-- these and the lemmas before them
+abbrev pub through_rearranging_lemmas : List Row
+through_rearranging_lemmas = through_first_lemmas ++ rearranging_lemmas

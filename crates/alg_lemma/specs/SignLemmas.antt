@@ -1,9 +1,10 @@
 -- Lemmas on differences, on products with signs, and on powers step by step.
-use Rattle.std.specs.Prelude.{List, [], ◌∷◌, codes}
+use Rattle.std.specs.Prelude.{List, [], ◌∷◌, ◌++◌, codes}
 use Rattle.alg_law.specs.declared.classes.Class.TheVariants.{AddCommGroup, AddGroup, Monoid, Ring}
 use Rattle.alg_law.specs.Rows.{Row}
 use Rattle.alg_law.specs.LawWords.{a, b, c, m, n, always, equal, in_a, minus, natural, natural_plus, negative, plus, power, times, whenever}
 use Rattle.alg_lemma.specs.LemmaWords.{natural_equal}
+use Rattle.alg_lemma.specs.NegationLemmas.{through_negation_lemmas}
 
 -- where c + a = b: -a + b = c
 abbrev pub neg_add_pos : Row
@@ -47,3 +48,7 @@ pow_next = whenever (codes "pow_next") (in_a Monoid) (natural_equal (natural_plu
 
 unfoldable pub sign_lemmas : List Row
 sign_lemmas = neg_add_pos ∷ neg_add_negr ∷ sub_eq_of_add ∷ neg_mul_lit ∷ mul_neg ∷ mul_neg_lit ∷ neg_mul_neg ∷ pow_one ∷ pow_double ∷ pow_next ∷ []
+
+-- these and the lemmas before them
+abbrev pub through_sign_lemmas : List Row
+through_sign_lemmas = through_negation_lemmas ++ sign_lemmas

@@ -1,14 +1,7 @@
-ghost use Rattle.std.specs.Prelude.{◌≡◌, ◌++◌, map, true};
+ghost use Rattle.std.specs.Prelude.{◌≡◌, map, true};
 ghost use Rattle.alg_proof.specs.LemmaRows.{lemma_row_of};
 ghost use Rattle.alg_lemma.specs.Proving.{all_may_join};
-ghost use Rattle.alg_lemma.specs.FirstLemmas.{first_lemmas};
-ghost use Rattle.alg_lemma.specs.RearrangingLemmas.{rearranging_lemmas};
-ghost use Rattle.alg_lemma.specs.NegationLemmas.{negation_lemmas};
-ghost use Rattle.alg_lemma.specs.SignLemmas.{sign_lemmas};
-ghost use Rattle.alg_lemma.specs.InverseLemmas.{inverse_lemmas};
-ghost use Rattle.alg_lemma.specs.QuotientLemmas.{quotient_lemmas};
-ghost use Rattle.alg_lemma.specs.FractionLemmas.{fraction_lemmas};
-ghost use Rattle.alg_lemma.specs.FractionProductLemmas.{fraction_product_lemmas};
+ghost use Rattle.alg_lemma.specs.FractionProductLemmas.{through_fraction_product_lemmas};
 ghost use Rattle.alg_lemma.specs.FractionPowerLemmas.{fraction_power_lemmas};
 
 use alg_law::law_words::{
@@ -189,7 +182,7 @@ static FRACTION_POWERS: [LemmaRow; 5] = [
 /// Powers of fractions, and their signs.
 pub fn fraction_power_lemmas() -> &'static [LemmaRow]
     ensures rows { map lemma_row_of result.now ≡ fraction_power_lemmas }
-    ensures proved { all_may_join (((((((first_lemmas ++ rearranging_lemmas) ++ negation_lemmas) ++ sign_lemmas) ++ inverse_lemmas) ++ quotient_lemmas) ++ fraction_lemmas) ++ fraction_product_lemmas) result.now ≡ true }
+    ensures proved { all_may_join through_fraction_product_lemmas result.now ≡ true }
 {
     &FRACTION_POWERS
 }

@@ -1,10 +1,7 @@
-ghost use Rattle.std.specs.Prelude.{◌≡◌, ◌++◌, map, true};
+ghost use Rattle.std.specs.Prelude.{◌≡◌, map, true};
 ghost use Rattle.alg_proof.specs.LemmaRows.{lemma_row_of};
 ghost use Rattle.alg_lemma.specs.Proving.{all_may_join};
-ghost use Rattle.alg_lemma.specs.FirstLemmas.{first_lemmas};
-ghost use Rattle.alg_lemma.specs.RearrangingLemmas.{rearranging_lemmas};
-ghost use Rattle.alg_lemma.specs.NegationLemmas.{negation_lemmas};
-ghost use Rattle.alg_lemma.specs.SignLemmas.{sign_lemmas};
+ghost use Rattle.alg_lemma.specs.SignLemmas.{through_sign_lemmas};
 ghost use Rattle.alg_lemma.specs.InverseLemmas.{inverse_lemmas};
 
 use alg_law::law_words::{A, B, INVERSE, NEGATIVE, ONE, TIMES, ZERO};
@@ -260,7 +257,7 @@ static INVERSES: [LemmaRow; 8] = [
 /// What is the inverse of what in a field.
 pub fn inverse_lemmas() -> &'static [LemmaRow]
     ensures rows { map lemma_row_of result.now ≡ inverse_lemmas }
-    ensures proved { all_may_join (((first_lemmas ++ rearranging_lemmas) ++ negation_lemmas) ++ sign_lemmas) result.now ≡ true }
+    ensures proved { all_may_join through_sign_lemmas result.now ≡ true }
 {
     &INVERSES
 }

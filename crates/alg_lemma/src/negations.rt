@@ -1,8 +1,7 @@
-ghost use Rattle.std.specs.Prelude.{◌≡◌, ◌++◌, map, true};
+ghost use Rattle.std.specs.Prelude.{◌≡◌, map, true};
 ghost use Rattle.alg_proof.specs.LemmaRows.{lemma_row_of};
 ghost use Rattle.alg_lemma.specs.Proving.{all_may_join};
-ghost use Rattle.alg_lemma.specs.FirstLemmas.{first_lemmas};
-ghost use Rattle.alg_lemma.specs.RearrangingLemmas.{rearranging_lemmas};
+ghost use Rattle.alg_lemma.specs.RearrangingLemmas.{through_rearranging_lemmas};
 ghost use Rattle.alg_lemma.specs.NegationLemmas.{negation_lemmas};
 
 use alg_law::law_words::{A, B, C, NEGATIVE, PLUS, ZERO};
@@ -209,7 +208,7 @@ static NEGATIONS: [LemmaRow; 7] = [
 /// What is the negation of what, and sums with one.
 pub fn negation_lemmas() -> &'static [LemmaRow]
     ensures rows { map lemma_row_of result.now ≡ negation_lemmas }
-    ensures proved { all_may_join (first_lemmas ++ rearranging_lemmas) result.now ≡ true }
+    ensures proved { all_may_join through_rearranging_lemmas result.now ≡ true }
 {
     &NEGATIONS
 }

@@ -1,11 +1,7 @@
-ghost use Rattle.std.specs.Prelude.{◌≡◌, ◌++◌, map, true};
+ghost use Rattle.std.specs.Prelude.{◌≡◌, map, true};
 ghost use Rattle.alg_proof.specs.LemmaRows.{lemma_row_of};
 ghost use Rattle.alg_lemma.specs.Proving.{all_may_join};
-ghost use Rattle.alg_lemma.specs.FirstLemmas.{first_lemmas};
-ghost use Rattle.alg_lemma.specs.RearrangingLemmas.{rearranging_lemmas};
-ghost use Rattle.alg_lemma.specs.NegationLemmas.{negation_lemmas};
-ghost use Rattle.alg_lemma.specs.SignLemmas.{sign_lemmas};
-ghost use Rattle.alg_lemma.specs.InverseLemmas.{inverse_lemmas};
+ghost use Rattle.alg_lemma.specs.InverseLemmas.{through_inverse_lemmas};
 ghost use Rattle.alg_lemma.specs.QuotientLemmas.{quotient_lemmas};
 
 use alg_law::law_words::{A, B, C, D, INVERSE, N, ONE, OVER, POWER, TIMES, ZERO};
@@ -242,7 +238,7 @@ static QUOTIENTS: [LemmaRow; 7] = [
 /// Quotients in a field, and their inverses.
 pub fn quotient_lemmas() -> &'static [LemmaRow]
     ensures rows { map lemma_row_of result.now ≡ quotient_lemmas }
-    ensures proved { all_may_join ((((first_lemmas ++ rearranging_lemmas) ++ negation_lemmas) ++ sign_lemmas) ++ inverse_lemmas) result.now ≡ true }
+    ensures proved { all_may_join through_inverse_lemmas result.now ≡ true }
 {
     &QUOTIENTS
 }

@@ -1,7 +1,7 @@
 ghost use Rattle.std.specs.Prelude.{◌≡◌, map, true};
 ghost use Rattle.alg_proof.specs.LemmaRows.{lemma_row_of};
 ghost use Rattle.alg_lemma.specs.Proving.{all_may_join};
-ghost use Rattle.alg_lemma.specs.FirstLemmas.{first_lemmas};
+ghost use Rattle.alg_lemma.specs.FirstLemmas.{through_first_lemmas};
 ghost use Rattle.alg_lemma.specs.RearrangingLemmas.{rearranging_lemmas};
 
 use alg_law::law_words::{
@@ -205,7 +205,7 @@ static REARRANGEMENTS: [LemmaRow; 8] = [
 /// How sums and products are put in another order, and products of powers.
 pub fn rearranging_lemmas() -> &'static [LemmaRow]
     ensures rows { map lemma_row_of result.now ≡ rearranging_lemmas }
-    ensures proved { all_may_join first_lemmas result.now ≡ true }
+    ensures proved { all_may_join through_first_lemmas result.now ≡ true }
 {
     &REARRANGEMENTS
 }

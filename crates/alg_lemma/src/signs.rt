@@ -1,9 +1,7 @@
-ghost use Rattle.std.specs.Prelude.{◌≡◌, ◌++◌, map, true};
+ghost use Rattle.std.specs.Prelude.{◌≡◌, map, true};
 ghost use Rattle.alg_proof.specs.LemmaRows.{lemma_row_of};
 ghost use Rattle.alg_lemma.specs.Proving.{all_may_join};
-ghost use Rattle.alg_lemma.specs.FirstLemmas.{first_lemmas};
-ghost use Rattle.alg_lemma.specs.RearrangingLemmas.{rearranging_lemmas};
-ghost use Rattle.alg_lemma.specs.NegationLemmas.{negation_lemmas};
+ghost use Rattle.alg_lemma.specs.NegationLemmas.{through_negation_lemmas};
 ghost use Rattle.alg_lemma.specs.SignLemmas.{sign_lemmas};
 
 use alg_law::law_words::{
@@ -297,7 +295,7 @@ static SIGNS: [LemmaRow; 10] = [
 /// Differences, products with signs, and powers step by step.
 pub fn sign_lemmas() -> &'static [LemmaRow]
     ensures rows { map lemma_row_of result.now ≡ sign_lemmas }
-    ensures proved { all_may_join ((first_lemmas ++ rearranging_lemmas) ++ negation_lemmas) result.now ≡ true }
+    ensures proved { all_may_join through_negation_lemmas result.now ≡ true }
 {
     &SIGNS
 }
