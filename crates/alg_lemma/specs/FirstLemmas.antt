@@ -38,3 +38,7 @@ add_pos = whenever (codes "add_pos") (in_a IsStrictOrderedRing) (less (number 0)
 
 unfoldable pub first_lemmas : List Row
 first_lemmas = add_left_comm ∷ mul_left_comm ∷ add_neg_cancel ∷ mul_inv_cancel ∷ inv_inv ∷ mul_inv_rev ∷ neg_mul ∷ add_pos ∷ []
+
+-- these and the lemmas before them
+abbrev pub through_first_lemmas : List Row
+through_first_lemmas = first_lemmas

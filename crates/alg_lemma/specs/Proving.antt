@@ -201,3 +201,8 @@ may_join rows l = is_absent (row_named rows (lemma_row_of l).name) && proves row
 abbrev pub all_may_join : List Row → List LemmaRow → Bool
 all_may_join rows [] = true
 all_may_join rows (l ∷ ls) = may_join rows l && all_may_join (rows ++ lemma_row_of l ∷ []) ls
+
+-- each lemma of these groups may join these rows and the lemmas before it
+abbrev pub groups_may_join : List Row → List (List LemmaRow) → Bool
+groups_may_join rows [] = true
+groups_may_join rows (g ∷ gs) = all_may_join rows g && groups_may_join (rows ++ map lemma_row_of g) gs

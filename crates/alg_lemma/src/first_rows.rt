@@ -8,7 +8,7 @@ use alg_law::{Class, Law, Need, PatSort, PatStmt};
 use alg_proof::{LemmaRow, LemmaStep};
 use alg_terms::{Rel, Sym};
 
-static FIRST_LEMMAS: [LemmaRow; 8] = [
+static FIRST_ROWS: [LemmaRow; 8] = [
     // a + (b + c) = b + (a + c)
     LemmaRow {
         row: Law {
@@ -353,5 +353,5 @@ pub fn first_lemmas() -> &'static [LemmaRow]
     ensures rows { map lemma_row_of result.now ≡ first_lemmas }
     ensures proved { all_may_join [] result.now ≡ true }
 {
-    &FIRST_LEMMAS
+    &FIRST_ROWS
 }

@@ -1,18 +1,63 @@
 ghost use Rattle.std.specs.Prelude.{◌≡◌, ◌++◌, ◌∷◌, [], map, true, IfOk, OnOk};
 ghost use Rattle.alg_proof.specs.LemmaRows.{lemma_row_of, rows_of};
-ghost use Rattle.alg_lemma.specs.Proving.{may_join, all_may_join};
+ghost use Rattle.alg_lemma.specs.Proving.{may_join, all_may_join, groups_may_join};
 ghost use Rattle.alg_lemma.specs.Lemmas.{lemma_groups, lemma_table};
 
+use crate::combinations::combination_lemmas;
+use crate::comparisons::comparison_lemmas;
+use crate::factors::factor_lemmas;
 use crate::first_rows::first_lemmas;
+use crate::fraction_powers::fraction_power_lemmas;
+use crate::fraction_products::fraction_product_lemmas;
+use crate::fractions::fraction_lemmas;
+use crate::inequations::inequation_lemmas;
+use crate::inverses::inverse_lemmas;
+use crate::merges::merging_lemmas;
+use crate::multiple_sums::multiple_sum_lemmas;
+use crate::multiples::multiple_lemmas;
+use crate::negations::negation_lemmas;
+use crate::node_pairs::node_pair_lemmas;
+use crate::node_products::node_product_lemmas;
+use crate::node_sums::node_sum_lemmas;
+use crate::positive_parts::positivity_lemmas;
+use crate::quotients::quotient_lemmas;
+use crate::rearrangements::rearranging_lemmas;
+use crate::signs::sign_lemmas;
+use crate::word_rows::word_lemmas;
+use crate::written_terms::written_term_lemmas;
 use alg_expr::Memory;
 use alg_proof::{LemmaRow, Lemmas};
 use std::alloc::Global;
 
 /// The lemmas, in groups. Rows are only ever added at the end.
-pub fn lemmas() -> [&'static [LemmaRow]; 1]
-    ensures { map (λ g. map lemma_row_of g.now) result ≡ lemma_groups }
+pub fn lemmas() -> [&'static [LemmaRow]; 22]
+    ensures rows { map (λ g. map lemma_row_of g.now) result ≡ lemma_groups }
+    ensures proved { groups_may_join [] (map (λ g. g.now) result) ≡ true }
 {
-    [first_lemmas()]
+    [
+        first_lemmas(),
+        rearranging_lemmas(),
+        negation_lemmas(),
+        sign_lemmas(),
+        inverse_lemmas(),
+        quotient_lemmas(),
+        fraction_lemmas(),
+        fraction_product_lemmas(),
+        fraction_power_lemmas(),
+        inequation_lemmas(),
+        comparison_lemmas(),
+        node_sum_lemmas(),
+        node_pair_lemmas(),
+        node_product_lemmas(),
+        merging_lemmas(),
+        written_term_lemmas(),
+        combination_lemmas(),
+        multiple_lemmas(),
+        multiple_sum_lemmas(),
+        word_lemmas(),
+        positivity_lemmas(),
+        factor_lemmas(),
+    ]
 }
 
 /// The table of all lemmas, each of which follows from the laws.
@@ -20,7 +65,9 @@ pub fn library(alloc: Global) -> Result<Lemmas, Memory>
     ensures { IfOk result (λ t. rows_of t ≡ lemma_table) }
 {
     let mut table = Lemmas::new(alloc)?;
-    add_all(&mut table, first_lemmas())?;
+    for group in lemmas() {
+        add_all(&mut table, group)?;
+    }
     Ok(table)
 }
 
