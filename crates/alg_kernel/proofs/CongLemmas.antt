@@ -12,8 +12,8 @@ use Rattle.alg_law.specs.declared.marks.Mark.{Mark}
 use Rattle.alg_law.specs.declared.marks.Mark.TheVariants.{Good, NoInstance, BadSort, BadName}
 use Rattle.alg_law.specs.Declarations.{Declaration}
 use Rattle.alg_law.specs.WellSorted.{head_mark, sorts_of}
-use Rattle.alg_proof.specs.Steps.{Concludes, only_if, only_good, all_equations, left_sides, right_sides, value_sort, cong_of}
-use Rattle.alg_proof.specs.Admissible.{AllFine, sides_sorts}
+use Rattle.alg_proof.specs.Causes.{Concludes, only_if, only_good}
+use Rattle.alg_proof.specs.Steps.{all_equations, left_sides, right_sides, value_sort, cong_of}
 use Rattle.alg_kernel.specs.declared.answers.Fault.{Fault}
 use Rattle.alg_kernel.specs.declared.answers.Fault.TheVariants as fault
 use Rattle.alg_kernel.specs.Answers.{IsJudged, IsPassed}
@@ -77,7 +77,7 @@ module _ (ds : List Declaration) (ts : List Tree) (f : Sym) (parts : List Stmt) 
     pub left-fits : sorts_fit f t (sorts_at ts lefts) ≡ true
     left-fits = (head-fits ds f t (sorts_at ts lefts) (sym k ∙ passed r m u p q)).1
 
-    pub right-fits : AllFine ds None (statements_of ts parts) → sorts_fit f t (sorts_at ts rights) ≡ true
-    right-fits fine =
-        let same : sorts_at ts rights ≡ sorts_at ts lefts = ap (sorts_at ts) er ∙ sym (right-sorts ts parts) ∙ sides_sorts ds None (statements_of ts parts) fine ∙ sorts-left in
+    pub right-fits : sorts_of (right_sides (statements_of ts parts)) ≡ sorts_of (left_sides (statements_of ts parts)) → sorts_fit f t (sorts_at ts rights) ≡ true
+    right-fits even =
+        let same : sorts_at ts rights ≡ sorts_at ts lefts = ap (sorts_at ts) er ∙ sym (right-sorts ts parts) ∙ even ∙ sorts-left in
         rw same left-fits

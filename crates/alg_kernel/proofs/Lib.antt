@@ -2,4 +2,4 @@ pub mod TreeLemmas
 pub mod SideLemmas
 pub mod PremiseLemmas
 pub mod CongLemmas
-pub mod LineLemmas
+pub mod NthLemmas

@@ -4,7 +4,7 @@ use Rattle.std.proofs.lemmas.List.{map-append}
 use Rattle.alg_terms.specs.Tree.{Tree, Statement}
 use Rattle.alg_expr.specs.declared.ids.Stmt.{Stmt}
 use Rattle.alg_expr.specs.Ids.{statement_of, statements_of}
-use Rattle.alg_proof.specs.Steps.{line_at, statements_at, join}
+use Rattle.alg_proof.specs.Causes.{line_at, statements_at, join}
 
 -- these, and then those
 abbrev pub before : List Statement → Option (List Statement) → Option (List Statement)

@@ -5,9 +5,11 @@ use Rattle.alg_terms.specs.declared.causes.BadCause.TheVariants as cause
 use Rattle.alg_terms.specs.Tree.{Tree, Statement}
 use Rattle.alg_expr.specs.declared.ids.Stmt.{Stmt}
 use Rattle.alg_expr.specs.Ids.{statement_of, statements_of, IsStatementIn}
+use Rattle.alg_law.specs.declared.declarations.Declared.{Declared}
+use Rattle.alg_law.specs.Declarations.{declaration_of, with_hypothesis}
 use Rattle.alg_law.specs.declared.marks.Mark.{Mark}
 use Rattle.alg_law.specs.declared.marks.Mark.TheVariants.{Good, NoInstance, BadSort, BadName}
-use Rattle.alg_proof.specs.Steps.{Concludes}
+use Rattle.alg_proof.specs.Causes.{Concludes}
 use Rattle.alg_proof.specs.Valid.{Verdict, Accepted, BadAt, EndsWrong}
 use Rattle.alg_kernel.specs.declared.answers.Checked.{Checked}
 use Rattle.alg_kernel.specs.declared.answers.Fault.{Fault}
@@ -45,6 +47,16 @@ abbrev pub AreFound : List Tree → Result (Vec Stmt) Fault → Option (List Sta
 AreFound ts (Ok v) o = All (IsStatementIn ts) v.items × (o ≡ Some (statements_of ts v.items))
 AreFound ts (Err (fault.Bad c)) o = (o ≡ None) × (c ≡ cause.Reference)
 AreFound ts (Err fault.Memory) o = ⊤
+
+-- the statement of a hypothesis
+abbrev pub IsTold : List Tree → Option Stmt → Option Statement → Type 0
+IsTold ts None o = o ≡ None
+IsTold ts (Some s) o = IsStatementIn ts s × (o ≡ Some (statement_of ts s))
+
+-- the declaration is a hypothesis with this statement, or none
+abbrev pub TellsHypothesis : List Tree → Declared → Option Stmt → Type 0
+TellsHypothesis ts d (Some s) = IsStatementIn ts s × ((hs : List Statement) → with_hypothesis (declaration_of ts d) hs ≡ statement_of ts s ∷ hs)
+TellsHypothesis ts d None = (hs : List Statement) → with_hypothesis (declaration_of ts d) hs ≡ hs
 
 -- the conclusion of a good line is added, and nothing after another
 abbrev pub IsFed : List Tree → List Stmt → List Stmt → Result (Unit {0}) Fault → Concludes → Type 0

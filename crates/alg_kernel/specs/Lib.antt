@@ -1,3 +1,5 @@
 pub mod Answers
+pub mod Filling
+pub mod Progress
 pub mod Sides
 pub mod State

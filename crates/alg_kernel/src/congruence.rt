@@ -1,10 +1,12 @@
-ghost use Rattle.std.specs.Prelude.{◌≡◌, All, length, IfOk, None, true};
+ghost use Rattle.std.specs.Prelude.{◌≡◌, All, length, IfOk, true};
 ghost use Rattle.alg_terms.specs.Tree.{App, of_list, equal};
 ghost use Rattle.alg_expr.specs.Ids.{IsIn, trees_at, statement_of, statements_of, IsStatementIn};
 ghost use Rattle.alg_expr.specs.Arena.{Extends};
 ghost use Rattle.alg_expr.specs.Applying.{arity_fits, sorts_fit, sorts_at};
-ghost use Rattle.alg_proof.specs.Steps.{statements_at, all_equations, same_sort, value_sort, cong_of, name_mark};
-ghost use Rattle.alg_proof.specs.Admissible.{AllFine};
+ghost use Rattle.alg_proof.specs.Causes.{statements_at};
+ghost use Rattle.alg_proof.specs.Steps.{all_equations, same_sort, value_sort, cong_of, name_mark};
+ghost use Rattle.alg_proof.specs.Steps.{left_sides, right_sides};
+ghost use Rattle.alg_law.specs.WellSorted.{sorts_of};
 ghost use Rattle.alg_kernel.specs.Answers.{IsJudged, AreFound};
 ghost use Rattle.alg_kernel.specs.Sides.{left_ids, right_ids, is_same};
 
@@ -43,7 +45,7 @@ pub(crate) fn premises(arena: &Arena, done: &[Stmt], lines: &[u128]) -> Result<V
 /// `f(a..) = f(b..)`, from `a = b` for each argument.
 pub(crate) fn cong(base: &Base, arena: &mut Arena, sym: Sym, parts: &[Stmt]) -> Result<Stmt, Fault>
     requires here { All (IsStatementIn arena.old) parts.now }
-    requires fine { AllFine base.now None (statements_of arena.old parts.now) }
+    requires sorts { sorts_of (right_sides (statements_of arena.old parts.now)) ≡ sorts_of (left_sides (statements_of arena.old parts.now)) }
     ensures keeps { Extends arena.old arena.new }
     ensures judged { IsJudged arena.new result (cong_of base.now sym (statements_of arena.old parts.now)) }
 {
@@ -62,7 +64,7 @@ fn over_sides(
     rights: &[ExprId],
 ) -> Result<Stmt, Fault>
     requires here { All (IsStatementIn arena.old) parts.now }
-    requires fine { AllFine base.now None (statements_of arena.old parts.now) }
+    requires sorts { sorts_of (right_sides (statements_of arena.old parts.now)) ≡ sorts_of (left_sides (statements_of arena.old parts.now)) }
     requires left_ids { lefts.now ≡ left_ids parts.now }
     requires right_ids { rights.now ≡ right_ids parts.now }
     ensures keeps { Extends arena.old arena.new }

@@ -1,64 +1,127 @@
-ghost use Rattle.std.specs.Prelude.{◌≡◌, [], None, All, IfOk, OnOk};
+ghost use Rattle.std.specs.Prelude.{◌≡◌, [], All, IfOk, OnOk, Option, option_map, true};
 ghost use Rattle.alg_expr.specs.Ids.{statement_of, statements_of, IsStatementIn};
 ghost use Rattle.alg_expr.specs.Arena.{Extends};
 ghost use Rattle.alg_law.specs.Marks.{HasMarks};
+ghost use Rattle.alg_law.specs.declared.marks.Mark.TheVariants.{Good};
 ghost use Rattle.alg_proof.specs.Lines.{step_of, steps_of, IsLineIn};
-ghost use Rattle.alg_proof.specs.Steps.{Theory, conclude, conclude_named, step_mark};
-ghost use Rattle.alg_proof.specs.Valid.{verdict, verdict_from, statement_same};
-ghost use Rattle.alg_kernel.specs.Answers.{IsJudged, IsFed, GivesVerdict};
-ghost use Rattle.alg_proof.specs.Admissible.{AllFine};
+ghost use Rattle.alg_proof.specs.LemmaRows.{rows_of};
+ghost use Rattle.alg_proof.specs.Steps.{Theory, conclude, conclude_named, step_mark, compute_mark};
+ghost use Rattle.alg_proof.specs.Valid.{verdict, verdict_from};
+ghost use Rattle.alg_proof.specs.Admissible.{AllFine, IsTheory, Follows};
+ghost use Rattle.alg_kernel.specs.Answers.{IsFed, GivesVerdict};
+ghost use Rattle.alg_kernel.specs.Progress.{outcome};
+ghost use Rattle.alg_kernel.specs.State.{theory_of, progress_of, IsGivenIn, IsSound, IsFresh, Answers, AnswersAll};
 ghost use Rattle.alg_law.specs.Derivations.{Derivable};
-ghost use Rattle.alg_kernel.specs.State.{IsSound, IsEmpty};
+ghost use Rattle.alg_kernel.specs.declared.answers.Refusal.TheVariants as refusal;
 
 use crate::answers::{Checked, Fault, Refusal, pass};
-use crate::congruence::{cong, name_of, premises};
-use crate::rules::{earlier, equation, product, same_tree, sum, symm, trans};
+use crate::grounds::Grounds;
+use crate::judging::{first_look, judge};
+use crate::rules::same_statement;
 use alg_expr::{Arena, Memory, Stmt};
-use alg_law::{Base, Mark, mark_for, mark_for_sort};
-use alg_proof::Line;
+use alg_law::{Base, Mark};
+use alg_proof::{Lemmas, Line};
+use alg_terms::BadCause;
 use std::alloc::Global;
 
-/// The lines that were checked so far.
+/// The first bad line, counted from 1, with its first cause.
+#[derive(Clone, Copy)]
+pub(crate) struct BadLine {
+    pub line: usize,
+    pub cause: BadCause,
+}
+
+/// Checks proof lines one by one. The lines, the given statement and the goal are of one arena, which is handed in
+/// at each call, keeps its trees between the calls, and grows by the trees that the lines conclude.
 #[derive(Drop)]
-pub(crate) struct Kernel {
+pub struct Kernel<'a> {
+    grounds: Grounds<'a>,
     // the marks of the first trees of the arena, so that each is looked at once
     marks: Vec<Mark>,
     // what each line concludes
     done: Vec<Stmt>,
+    bad: Option<BadLine>,
 }
 
-impl Kernel {
-    fn new(alloc: Global) -> Kernel
-        ensures { IsEmpty result }
+impl<'a> Kernel<'a> {
+    /// A kernel that has checked nothing.
+    pub fn new(
+        alloc: Global,
+        lemmas: &'a Lemmas,
+        base: &'a Base,
+        given: Option<Stmt>,
+    ) -> Result<Kernel<'a>, Memory>
+        ensures { IfOk result (λ k. IsFresh (record { lemmas = lemmas.entry; base = base.entry; given = given }) k) }
     {
-        Kernel {
+        let _rows = lemmas.len();
+        let _declarations = base.len();
+        Ok(Kernel {
+            grounds: Grounds {
+                lemmas,
+                base,
+                given,
+            },
             marks: Vec::new(alloc),
             done: Vec::new(alloc),
+            bad: None,
+        })
+    }
+
+    /// Checks one more line. After a bad line each call answers that line again. After `Memory` the accepted lines
+    /// are as before, and the line may be fed again.
+    pub fn feed(&mut self, arena: &mut Arena, line: &Line) -> Result<(), Refusal>
+        requires sound { IsSound arena.old self.old }
+        requires line_in { IsLineIn arena.old line.now }
+        ensures keeps { Extends arena.old arena.new }
+        ensures grounds { self.new.grounds ≡ self.old.grounds }
+        ensures answers { Answers (theory_of arena.old self.old.grounds) (progress_of arena.old self.old) (step_of arena.old line.now) (progress_of arena.new self.new) result }
+        ensures sound { IsSound arena.new self.new }
+    {
+        if let Some(bad) = self.bad {
+            return Err(refused(bad));
+        }
+        match self.add(arena, line) {
+            Ok(()) => Ok(()),
+            Err(Fault::Memory) => Err(Refusal::Memory),
+            Err(Fault::Bad(cause)) => {
+                let bad = BadLine {
+                    line: self.done.len() + 1,
+                    cause,
+                };
+                self.bad = Some(bad);
+                Err(refused(bad))
+            }
         }
     }
 
-    /// Checks one more line.
-    fn feed(&mut self, base: &Base, arena: &mut Arena, line: &Line) -> Result<(), Fault>
-        requires sound { IsSound base.now arena.old self.old }
+    // adds the conclusion of a good line
+    fn add(&mut self, arena: &mut Arena, line: &Line) -> Result<(), Fault>
+        requires sound { IsSound arena.old self.old }
         requires line_in { IsLineIn arena.old line.now }
         ensures keeps { Extends arena.old arena.new }
-        ensures fed { IsFed arena.new self.old.done.items self.new.done.items result (conclude (record { declarations = base.now }) (statements_of arena.old self.old.done.items) (step_of arena.old line.now)) }
-        ensures sound { IfOk result (λ _. IsSound base.now arena.new self.new) }
+        ensures grounds { self.new.grounds ≡ self.old.grounds }
+        ensures bad { self.new.bad ≡ self.old.bad }
+        ensures fed { IsFed arena.new self.old.done.items self.new.done.items result (conclude (theory_of arena.old self.old.grounds) (statements_of arena.old self.old.done.items) (step_of arena.old line.now)) }
+        ensures sound { IsSound arena.new self.new }
     {
-        let mark = first_look(&mut self.marks, base, arena, line)?;
+        let mark = first_look(&mut self.marks, self.grounds.base, arena, line)?;
         pass(mark)?;
-        let s = judge(base, arena, &self.done, line)?;
+        let s = judge(&self.grounds, arena, &self.done, line)?;
         self.done.push(s)?;
         Ok(())
     }
 
-    /// Whether the last line concludes the goal.
-    fn finish(self, arena: &Arena, goal: Stmt) -> Result<Checked, Refusal>
-        requires done_in { All (IsStatementIn arena.now) self.done.items }
+    /// Whether the last line concludes the goal. After a bad line the answer is that line.
+    pub fn finish(self, arena: &Arena, goal: Stmt) -> Result<Checked, Refusal>
+        requires sound { IsSound arena.now self }
         requires goal_in { IsStatementIn arena.now goal }
-        ensures verdict { (th : Theory) → GivesVerdict result (verdict_from th (statements_of arena.now self.done.items) [] (statement_of arena.now goal)) }
+        ensures verdict { GivesVerdict result (outcome (progress_of arena.now self.entry) (statement_of arena.now goal)) }
+        ensures derivable { OnOk result (Follows (theory_of arena.now self.entry.grounds) (statement_of arena.now goal)) }
         ensures goal { IfOk result (λ c. c.goal ≡ goal) }
     {
+        if let Some(bad) = self.bad {
+            return Err(refused(bad));
+        }
         match self.done.last() {
             Some(s) => if same_statement(arena, s, &goal) {
                 Ok(Checked { goal })
@@ -70,88 +133,56 @@ impl Kernel {
     }
 }
 
-// the mark of the names, sorts and trees that the line itself names
-fn first_look(
-    marks: &mut Vec<Mark>,
-    base: &Base,
-    arena: &Arena,
-    line: &Line,
-) -> Result<Mark, Memory>
-    requires marked { HasMarks base.now arena.now marks.old.items }
-    requires line_in { IsLineIn arena.now line.now }
-    ensures ok { IfOk result (λ m. m ≡ step_mark base.now (step_of arena.now line.now)) }
-    ensures marked { HasMarks base.now arena.now marks.new.items }
+fn refused(bad: BadLine) -> Refusal
+    ensures { result ≡ refusal.Bad bad.line bad.cause }
 {
-    match line {
-        Line::Refl(e) => mark_for(marks, base, arena, *e),
-        Line::Symm(_) => Ok(Mark::Good),
-        Line::Trans(_, _) => Ok(Mark::Good),
-        Line::Cong(sym, _) => Ok(name_of(base, *sym)),
-        Line::LitAdd(sort, _, _) => Ok(mark_for_sort(base, *sort)),
-        Line::LitMul(sort, _, _) => Ok(mark_for_sort(base, *sort)),
+    Refusal::Bad {
+        line: bad.line,
+        cause: bad.cause,
     }
 }
 
-// what a line concludes after the first look
-fn judge(base: &Base, arena: &mut Arena, done: &[Stmt], line: &Line) -> Result<Stmt, Fault>
-    requires done_in { All (IsStatementIn arena.old) done.now }
-    requires fine { AllFine base.now None (statements_of arena.old done.now) }
-    requires line_in { IsLineIn arena.old line.now }
-    ensures keeps { Extends arena.old arena.new }
-    ensures judged { IsJudged arena.new result (conclude_named base.now (statements_of arena.old done.now) (step_of arena.old line.now)) }
-{
-    match line {
-        Line::Refl(e) => Ok(equation(arena, *e, *e)),
-        Line::Symm(i) => symm(arena, &earlier(arena, done, *i)?),
-        Line::Trans(i, j) => {
-            let a = earlier(arena, done, *i)?;
-            let b = earlier(arena, done, *j)?;
-            trans(arena, &a, &b)
-        }
-        Line::Cong(sym, parts) => {
-            let parts = premises(arena, done, parts)?;
-            cong(base, arena, *sym, &parts)
-        }
-        Line::LitAdd(sort, m, n) => sum(base, arena, *sort, *m, *n),
-        Line::LitMul(sort, m, n) => product(base, arena, *sort, *m, *n),
-    }
-}
-
-fn same_statement(arena: &Arena, a: &Stmt, b: &Stmt) -> bool
-    requires left { IsStatementIn arena.now a.now }
-    requires right { IsStatementIn arena.now b.now }
-    ensures { result ≡ statement_same (statement_of arena.now a.now) (statement_of arena.now b.now) }
-{
-    a.rel.is(b.rel)
-        && a.sort.is(b.sort)
-        && same_tree(arena, a.lhs, b.lhs)
-        && same_tree(arena, a.rhs, b.rhs)
-}
-
-/// Checks that the lines prove the goal under the base. `Bad` names the first bad line, counted from 1, with its
-/// first cause; `WrongEnd` comes where all lines are good and the last isn't the goal, or there is none. The arena
-/// keeps its trees and grows by those that the lines conclude.
+/// Checks that the lines prove the goal by the laws, the lemmas, the hypotheses of the base and the given statement,
+/// if there is one. `Bad` names the first bad line, counted from 1, with its first cause; `WrongEnd` comes where all
+/// lines are good and the last isn't the goal, or there is none. The arena keeps its trees and grows by those that
+/// the lines conclude.
 pub fn accept(
     alloc: Global,
+    lemmas: &Lemmas,
     base: &Base,
     arena: &mut Arena,
+    given: Option<Stmt>,
     goal: Stmt,
     lines: &[Line],
 ) -> Result<Checked, Refusal>
+    requires given_in { IsGivenIn base.now arena.old given }
     requires goal_in { IsStatementIn arena.old goal }
     requires lines_in { All (IsLineIn arena.old) lines.now }
     ensures keeps { Extends arena.old arena.new }
-    ensures verdict { GivesVerdict result (verdict (record { declarations = base.now }) (steps_of arena.old lines.now) (statement_of arena.old goal)) }
-    ensures derivable { OnOk result (Derivable base.now None (statement_of arena.old goal)) }
+    ensures verdict { GivesVerdict result (verdict (record { declarations = base.now; lemmas = rows_of lemmas.now; given = option_map (statement_of arena.old) given }) (steps_of arena.old lines.now) (statement_of arena.old goal)) }
+    ensures derivable { OnOk result (Derivable base.now (option_map (statement_of arena.old) given) (statement_of arena.old goal)) }
     ensures goal { IfOk result (λ c. c.goal ≡ goal) }
 {
-    let mut kernel = Kernel::new(alloc);
-    for (i, line) in lines.iter().enumerate() {
-        match kernel.feed(base, arena, line) {
-            Ok(()) => {}
-            Err(Fault::Bad(cause)) => return Err(Refusal::Bad { line: i + 1, cause }),
-            Err(Fault::Memory) => return Err(Refusal::Memory),
+    match Kernel::new(alloc, lemmas, base, given) {
+        Err(Memory) => Err(Refusal::Memory),
+        Ok(mut kernel) => {
+            feed_all(&mut kernel, arena, lines)?;
+            kernel.finish(arena, goal)
         }
     }
-    kernel.finish(arena, goal)
+}
+
+// checks these lines one after another, up to the first that isn't good
+fn feed_all(kernel: &mut Kernel<'_>, arena: &mut Arena, lines: &[Line]) -> Result<(), Refusal>
+    requires sound { IsSound arena.old kernel.old }
+    requires lines_in { All (IsLineIn arena.old) lines.now }
+    ensures keeps { Extends arena.old arena.new }
+    ensures grounds { kernel.new.grounds ≡ kernel.old.grounds }
+    ensures sound { IsSound arena.new kernel.new }
+    ensures answers { AnswersAll (theory_of arena.old kernel.old.grounds) (progress_of arena.old kernel.old) (steps_of arena.old lines.now) (progress_of arena.new kernel.new) result }
+{
+    for line in lines {
+        kernel.feed(arena, line)?;
+    }
+    Ok(())
 }

@@ -2,12 +2,19 @@
 #![tactic(auto)]
 
 pub mod answers;
+mod bridges;
+mod computations;
 mod congruence;
+mod filling;
+mod grounds;
+mod hypotheses;
+mod instances;
+mod judging;
 pub mod kernel;
+mod letters;
+mod relations;
 mod rules;
-#[cfg(test)]
-mod tests;
 
 pub use alg_terms::BadCause;
 pub use answers::{Checked, Refusal};
-pub use kernel::accept;
+pub use kernel::{Kernel, accept};

@@ -7,7 +7,9 @@ ghost use Rattle.alg_expr.specs.Arena.{Extends, GrowsBy};
 ghost use Rattle.alg_expr.specs.Applying.{arity_fits, sorts_fit, sorts_at};
 ghost use Rattle.alg_law.specs.Having.{has_class};
 ghost use Rattle.alg_law.specs.declared.classes.Class.TheVariants as class;
-ghost use Rattle.alg_proof.specs.Steps.{line_at, is_eq_rel, symm_of, trans_of, sum_of, product_of};
+ghost use Rattle.alg_proof.specs.Causes.{line_at, is_eq_rel, statement_same};
+ghost use Rattle.alg_proof.specs.LiteralLines.{sum_of, product_of};
+ghost use Rattle.alg_proof.specs.Steps.{symm_of, trans_of, subst_of};
 ghost use Rattle.alg_kernel.specs.Answers.{IsJudged, IsFound};
 
 use crate::answers::Fault;
@@ -15,8 +17,8 @@ use alg_expr::{Arena, ExprFault, ExprId, Memory, Rel, Sort, Stmt, Sym};
 use alg_law::{Base, Class, has};
 use alg_terms::BadCause;
 
-// the greatest literal, 2^127 - 1
-const LIMIT: u128 = 0x7fff_ffff_ffff_ffff_ffff_ffff_ffff_ffff;
+/// The greatest literal, 2^127 - 1.
+pub(crate) const LIMIT: u128 = 0x7fff_ffff_ffff_ffff_ffff_ffff_ffff_ffff;
 
 /// Whether two ids stand for the same tree. No tree of an arena stands twice, so their numbers tell.
 pub(crate) fn same_tree(arena: &Arena, a: ExprId, b: ExprId) -> bool
@@ -93,6 +95,44 @@ pub(crate) fn trans(arena: &Arena, a: &Stmt, b: &Stmt) -> Result<Stmt, Fault>
     } else {
         Err(Fault::Bad(BadCause::Shape))
     }
+}
+
+/// `c R d`, from `a R b`, `a = c` and `b = d`.
+pub(crate) fn subst(arena: &Arena, a: &Stmt, b: &Stmt, c: &Stmt) -> Result<Stmt, Fault>
+    requires first { IsStatementIn arena.now a.now }
+    requires left { IsStatementIn arena.now b.now }
+    requires right { IsStatementIn arena.now c.now }
+    ensures { IsJudged arena.now result (subst_of (statement_of arena.now a.now) (statement_of arena.now b.now) (statement_of arena.now c.now)) }
+{
+    if !a.sort.is(b.sort) || !a.sort.is(c.sort) {
+        return Err(Fault::Bad(BadCause::Sort));
+    }
+    if is_equation(b)
+        && is_equation(c)
+        && same_tree(arena, a.lhs, b.lhs)
+        && same_tree(arena, a.rhs, c.lhs)
+    {
+        Ok(Stmt {
+            rel: a.rel,
+            sort: a.sort,
+            lhs: b.rhs,
+            rhs: c.rhs,
+        })
+    } else {
+        Err(Fault::Bad(BadCause::Shape))
+    }
+}
+
+/// Whether two statements are the same.
+pub(crate) fn same_statement(arena: &Arena, a: &Stmt, b: &Stmt) -> bool
+    requires left { IsStatementIn arena.now a.now }
+    requires right { IsStatementIn arena.now b.now }
+    ensures { result ≡ statement_same (statement_of arena.now a.now) (statement_of arena.now b.now) }
+{
+    a.rel.is(b.rel)
+        && a.sort.is(b.sort)
+        && same_tree(arena, a.lhs, b.lhs)
+        && same_tree(arena, a.rhs, b.rhs)
 }
 
 /// A symbol over arguments that it takes.

@@ -36,7 +36,7 @@ both-requires-clause-left_sorts c =
 pub both-requires-clause-right_sorts : goal.both-requires-clause-right_sorts
 both-requires-clause-right_sorts c =
     right-fits c.args.base.now c.args.arena.now c.args.sym c.args.parts.now c.args.lefts.now c.args.rights.now c.requires.left_ids c.requires.right_ids c.in-Some.sort c.mark_for_head.result c.pass.result c.in_ok-pass-in-Some.field-0 c.in-Some.ensures c.mark_for_head.ensures
-    c.pass.ensures c.in_ok-pass-in-Some.was c.requires.fine
+    c.pass.ensures c.in_ok-pass-in-Some.was c.requires.sorts
 
 pub returns-in_ok-both-in-Some-clause-judged : goal.returns-in_ok-both-in-Some-clause-judged
 returns-in_ok-both-in-Some-clause-judged c = (

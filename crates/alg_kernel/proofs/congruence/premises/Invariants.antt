@@ -1,6 +1,6 @@
 use Rattle.std.proofs.Common.{◌≡◌, drop, All}
 use Rattle.alg_expr.specs.Ids.{statements_of, IsStatementIn}
-use Rattle.alg_proof.specs.Steps.{statements_at}
+use Rattle.alg_proof.specs.Causes.{statements_at}
 use Rattle.alg_kernel.proofs.PremiseLemmas.{before}
 use Rattle.alg_kernel.proofs.congruence.premises.Given as goal
 
