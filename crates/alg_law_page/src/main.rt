@@ -1,4 +1,4 @@
-//! Prints the page on the laws, docs/LAWS.md, from the table of the code.
+//! Prints the page on the laws and lemmas, docs/LAWS.md, from the tables of the code.
 #![tactic(auto)]
 
 mod patterns;
@@ -6,11 +6,13 @@ mod rows;
 mod texts;
 
 use alg_law::{Law, laws};
+use alg_lemma::lemmas;
+use alg_proof::LemmaRow;
 use rows::row;
 use std::alloc::Global;
 use std::io;
 use std::io::Print;
-use texts::{GROUPS, HEAD, TAIL};
+use texts::{GROUPS, HEAD, LEMMA_GROUPS, LEMMA_HEAD, LITERALS};
 
 fn main(rt: HostRuntime) -> io::Result<()> {
     print_lines(&rt, &HEAD)?;
@@ -18,7 +20,18 @@ fn main(rt: HostRuntime) -> io::Result<()> {
     for i in 0..groups.len() {
         print_group(&rt, rt.alloc(), GROUPS[i], groups[i])?;
     }
-    print_lines(&rt, &TAIL)
+    print_lines(&rt, &LITERALS)?;
+    print_lemmas(&rt, rt.alloc())
+}
+
+// the part on the lemmas
+fn print_lemmas(rt: &impl Print, alloc: Global) -> io::Result<()> {
+    print_lines(rt, &LEMMA_HEAD)?;
+    let groups = lemmas();
+    for i in 0..groups.len() {
+        print_lemma_group(rt, alloc, LEMMA_GROUPS[i], groups[i])?;
+    }
+    Ok(())
 }
 
 fn print_lines(rt: &impl Print, lines: &[&str]) -> io::Result<()> {
@@ -34,6 +47,24 @@ fn print_group(rt: &impl Print, alloc: Global, title: &str, laws: &[Law]) -> io:
     for law in laws {
         let text = row(alloc, law)?;
         println!(rt; "{text}")?;
+    }
+    println!(rt; "")
+}
+
+// the heading and the table of a group of lemmas
+fn print_lemma_group(
+    rt: &impl Print,
+    alloc: Global,
+    title: &str,
+    lemmas: &[LemmaRow],
+) -> io::Result<()> {
+    println!(rt;
+        "### {title}\n\n| Name | Sort | Premises | Conclusion | Lines |\n|---|---|---|---|---|"
+    )?;
+    for lemma in lemmas {
+        let text = row(alloc, &lemma.row)?;
+        let lines = lemma.proof.len();
+        println!(rt; "{text} {lines} |")?;
     }
     println!(rt; "")
 }
