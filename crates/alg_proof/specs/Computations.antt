@@ -12,9 +12,8 @@ use Rattle.alg_law.specs.declared.classes.Class.TheVariants.{AddGroup}
 use Rattle.alg_law.specs.Declarations.{Declaration}
 use Rattle.alg_law.specs.Having.{has_class}
 use Rattle.alg_law.specs.WellSorted.{head_mark}
-use Rattle.alg_law.specs.LeanFunctions.{natural_remainder}
+use Rattle.alg_law.specs.Computing.{natural_value, integer_value, divides, literal_value}
 use Rattle.alg_law.specs.Derivations.{related}
-use Rattle.alg_proof.specs.Computing.{natural_value, integer_value}
 use Rattle.alg_proof.specs.declared.lines.ComputeHead.{ComputeHead}
 use Rattle.alg_proof.specs.declared.lines.ComputeHead.TheVariants as head
 use Rattle.alg_proof.specs.Causes.{Concludes, or_cause, only_if, only_good, is_small}
@@ -47,7 +46,7 @@ are_small (x ∷ xs) = is_small_integer x && are_small xs
 
 -- the value, on ℕ or ℤ
 abbrev pub value_at : Sort → Sym → List ℤ → Option ℤ
-value_at Nat f xs = option_map pos (natural_value f (map unsigned_abs xs))
+value_at Nat f xs = option_map pos (literal_value (natural_value f (map unsigned_abs xs)))
 value_at Int f xs = integer_value f xs
 value_at Rat f xs = None
 value_at (Decl k) f xs = None
@@ -63,10 +62,6 @@ value_line ds f s xs =
     (or_cause (value_at s f xs) cause.Literal (λ v.
     only_if (are_small xs && is_small_integer v) cause.Literal
     (Ok (equal (App f s (of_list (numerals_at s xs))) (numeral_at s v))))))
-
--- x divides y
-abbrev pub divides : ℕ → ℕ → Bool
-divides x y = nat_eq (natural_remainder y x) 0
 
 -- the first number divides the second, where there are two
 abbrev pub divides_next : List ℤ → Bool
