@@ -1,4 +1,4 @@
-//! Prints the page on the laws, docs/LAWS.md, from the table of the code.
+//! Prints the page on the laws and lemmas, docs/LAWS.md, from the tables of the code.
 #![tactic(auto)]
 
 mod patterns;
@@ -6,11 +6,13 @@ mod rows;
 mod texts;
 
 use alg_law::{Law, laws};
+use alg_lemma::lemmas;
+use alg_proof::LemmaRow;
 use rows::row;
 use std::alloc::Global;
 use std::io;
 use std::io::Print;
-use texts::{GROUPS, HEAD, TAIL};
+use texts::{GROUPS, HEAD, LEMMA_GROUPS, LEMMAS_HEAD, TAIL};
 
 fn main(rt: HostRuntime) -> io::Result<()> {
     print_lines(&rt, &HEAD)?;
@@ -18,7 +20,17 @@ fn main(rt: HostRuntime) -> io::Result<()> {
     for i in 0..groups.len() {
         print_group(&rt, rt.alloc(), GROUPS[i], groups[i])?;
     }
-    print_lines(&rt, &TAIL)
+    print_lines(&rt, &TAIL)?;
+    print_lemmas(&rt, rt.alloc())
+}
+
+fn print_lemmas(rt: &impl Print, alloc: Global) -> io::Result<()> {
+    print_lines(rt, &LEMMAS_HEAD)?;
+    let groups = lemmas();
+    for i in 0..groups.len() {
+        print_lemma_group(rt, alloc, LEMMA_GROUPS[i], groups[i])?;
+    }
+    Ok(())
 }
 
 fn print_lines(rt: &impl Print, lines: &[&str]) -> io::Result<()> {
@@ -36,4 +48,19 @@ fn print_group(rt: &impl Print, alloc: Global, title: &str, laws: &[Law]) -> io:
         println!(rt; "{text}")?;
     }
     println!(rt; "")
+}
+
+// the heading and the table of a group of lemmas
+fn print_lemma_group(
+    rt: &impl Print,
+    alloc: Global,
+    title: &str,
+    lemmas: &[LemmaRow],
+) -> io::Result<()> {
+    println!(rt; "\n## {title}\n\n| Name | Sort | Premises | Conclusion |\n|---|---|---|---|")?;
+    for lemma in lemmas {
+        let text = row(alloc, &lemma.row)?;
+        println!(rt; "{text}")?;
+    }
+    Ok(())
 }

@@ -56,3 +56,37 @@ pub(crate) const TAIL: [&str; 26] = [
     "| `Nat.choose a b` | Nat.choose | how many sets of b out of a things there are; 0 where b is greater than a |",
     "| `Nat.fib a` | Nat.fib | 0, 1, then each the sum of the two before it |",
 ];
+
+// The lines before the lemmas.
+pub(crate) const LEMMAS_HEAD: [&str; 4] = [
+    "",
+    "# Lemmas",
+    "",
+    "A lemma is used as a law is. Each follows from the laws: the code has its proof lines beside it, `lemmas()` of `alg_lemma`, and it is proved that they lead from its premises to its conclusion at every sort that it allows. The rows are `lemma_table` of `crates/alg_lemma/specs/Lemmas.antt`. There are 172.",
+];
+
+// The headings of the groups of lemmas.
+pub(crate) const LEMMA_GROUPS: [&str; 22] = [
+    "First lemmas",
+    "Another order",
+    "Negations",
+    "Signs, and powers step by step",
+    "Inverses in a field",
+    "Quotients in a field",
+    "Sums of fractions",
+    "Products of fractions",
+    "Powers of fractions",
+    "What is unequal",
+    "Order",
+    "Sums with a product by a power",
+    "Sums of two products by powers",
+    "Products and negations of products by powers",
+    "Sorted sums and monomials",
+    "Terms as they are written",
+    "Equations from differences",
+    "Multiples",
+    "Sums of multiples",
+    "Products of powers in a group",
+    "What is positive",
+    "Factors of quotients and inverses",
+];
