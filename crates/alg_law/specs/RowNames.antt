@@ -40,12 +40,12 @@ row_named-there : (rs : List Row) (n : List ℕ) (r : Row) → row_named rs n �
 row_named-there [] n r e = cc
 row_named-there (x ∷ rs) n r e = IsThere-pick (pointwise nat_eq x.name n) x rs n r refl (row_named-there rs n r) e
 
-abbrev is_none : Option Row → Bool
+abbrev pub is_none : Option Row → Bool
 is_none None = true
 is_none (Some r) = false
 
 -- no two rows have one name
-abbrev are_apart : List Row → Bool
+abbrev pub are_apart : List Row → Bool
 are_apart [] = true
 are_apart (r ∷ rs) = is_none (row_named rs r.name) && are_apart rs
 
@@ -65,7 +65,8 @@ later-pick true x r rs same none e =
     cc
 later-pick false x r rs same none e = e
 
-own : (rs : List Row) (r : Row) → are_apart rs ≡ true → Contains rs r → row_named rs r.name ≡ Some r
+-- where no two rows have one name, each is found by its name
+pub own : (rs : List Row) (r : Row) → are_apart rs ≡ true → Contains rs r → row_named rs r.name ≡ Some r
 own [] r a h = absurd (omega (arith, h.1))
 own (x ∷ rs) r a (zero, _, e) =
     subst (λ y. (if pointwise nat_eq y.name r.name then Some y else row_named rs r.name) ≡ Some r) (sym e) (own-pick (pointwise nat_eq r.name r.name) r r.name (row_named rs r.name) refl refl)

@@ -12,7 +12,7 @@ use rows::row;
 use std::alloc::Global;
 use std::io;
 use std::io::Print;
-use texts::{GROUPS, HEAD, LEMMA_GROUPS, LEMMA_HEAD, LITERALS};
+use texts::{GROUPS, HEAD, LEMMA_GROUPS, LEMMAS_HEAD, TAIL};
 
 fn main(rt: HostRuntime) -> io::Result<()> {
     print_lines(&rt, &HEAD)?;
@@ -20,13 +20,12 @@ fn main(rt: HostRuntime) -> io::Result<()> {
     for i in 0..groups.len() {
         print_group(&rt, rt.alloc(), GROUPS[i], groups[i])?;
     }
-    print_lines(&rt, &LITERALS)?;
+    print_lines(&rt, &TAIL)?;
     print_lemmas(&rt, rt.alloc())
 }
 
-// the part on the lemmas
 fn print_lemmas(rt: &impl Print, alloc: Global) -> io::Result<()> {
-    print_lines(rt, &LEMMA_HEAD)?;
+    print_lines(rt, &LEMMAS_HEAD)?;
     let groups = lemmas();
     for i in 0..groups.len() {
         print_lemma_group(rt, alloc, LEMMA_GROUPS[i], groups[i])?;
@@ -58,13 +57,10 @@ fn print_lemma_group(
     title: &str,
     lemmas: &[LemmaRow],
 ) -> io::Result<()> {
-    println!(rt;
-        "### {title}\n\n| Name | Sort | Premises | Conclusion | Lines |\n|---|---|---|---|---|"
-    )?;
+    println!(rt; "\n## {title}\n\n| Name | Sort | Premises | Conclusion |\n|---|---|---|---|")?;
     for lemma in lemmas {
         let text = row(alloc, &lemma.row)?;
-        let lines = lemma.proof.len();
-        println!(rt; "{text} {lines} |")?;
+        println!(rt; "{text}")?;
     }
-    println!(rt; "")
+    Ok(())
 }

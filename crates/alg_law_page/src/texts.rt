@@ -1,6 +1,6 @@
 // The lines before the tables.
 pub(crate) const HEAD: [&str; 10] = [
-    "# Laws and lemmas",
+    "# Laws",
     "",
     "An instance of a law takes a sort that the law allows and a tree for each of its letters. Where its premises are derivable, so is its conclusion.",
     "",
@@ -27,8 +27,8 @@ pub(crate) const GROUPS: [&str; 11] = [
     "Absolute values, inverses in order, natural numbers",
 ];
 
-// The lines on the laws of literals.
-pub(crate) const LITERALS: [&str; 27] = [
+// The lines behind the tables.
+pub(crate) const TAIL: [&str; 26] = [
     "## Literals",
     "",
     "These laws stand beside the table. A literal may be any natural number.",
@@ -55,39 +55,38 @@ pub(crate) const LITERALS: [&str; 27] = [
     "| `Nat.factorial a` | Nat.factorial | 1 for 0 |",
     "| `Nat.choose a b` | Nat.choose | how many sets of b out of a things there are; 0 where b is greater than a |",
     "| `Nat.fib a` | Nat.fib | 0, 1, then each the sum of the two before it |",
-    "",
 ];
 
-// The lines before the tables of lemmas.
-pub(crate) const LEMMA_HEAD: [&str; 4] = [
-    "## Lemmas",
+// The lines before the lemmas.
+pub(crate) const LEMMAS_HEAD: [&str; 4] = [
     "",
-    "A lemma follows from the laws: each has a proof by lines that cite laws, literals and lemmas before it, and that it does is proved. A proof line may cite a lemma as it cites a law. New lemmas come at the end. \"Lines\" is the length of its proof. The table is `lemma_table` of `crates/alg_lemma/specs/Lemmas.antt`; the code has it as `lemmas()` and `library()` of `alg_lemma`.",
+    "# Lemmas",
     "",
+    "A lemma is used as a law is. Each follows from the laws: the code has its proof lines beside it, `lemmas()` of `alg_lemma`, and it is proved that they lead from its premises to its conclusion at every sort that it allows. The rows are `lemma_table` of `crates/alg_lemma/specs/Lemmas.antt`. There are 172.",
 ];
 
 // The headings of the groups of lemmas.
 pub(crate) const LEMMA_GROUPS: [&str; 22] = [
-    "The first lemmas",
-    "Another order of sums and products",
-    "Negation",
-    "Differences, products with signs, powers step by step",
+    "First lemmas",
+    "Another order",
+    "Negations",
+    "Signs, and powers step by step",
     "Inverses in a field",
     "Quotients in a field",
-    "Sums of fractions, other denominators",
+    "Sums of fractions",
     "Products of fractions",
-    "Powers of fractions, and their signs",
+    "Powers of fractions",
     "What is unequal",
-    "The order of products and negations",
-    "Sums in which a side is a product by a power and a rest",
-    "Sums of two products by powers with their rests",
-    "Products, powers and negations of products by powers with their rests",
-    "Sorted sums that are merged, monomials that are put together",
+    "Order",
+    "Sums with a product by a power",
+    "Sums of two products by powers",
+    "Products and negations of products by powers",
+    "Sorted sums and monomials",
     "Terms as they are written",
-    "Equations from differences that are 0",
-    "Multiples by numbers of ℕ",
+    "Equations from differences",
+    "Multiples",
     "Sums of multiples",
     "Products of powers in a group",
-    "What is positive, or at least 0",
-    "Factors moved out of quotients and inverses",
+    "What is positive",
+    "Factors of quotients and inverses",
 ];

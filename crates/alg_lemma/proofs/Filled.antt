@@ -1,23 +1,22 @@
 -- Patterns that fit are well sorted where trees stand for their letters, and patterns put for letters are filled first.
 use Rattle.std.proofs.Common.{◌≡◌, ℕ, zero, suc, Bool, true, false, List, [], ◌∷◌, refl, ap, ap₂, sym, ◌∙◌, subst}
-use Rattle.std.specs.Prelude.{◌&&◌, ◌||◌, if◌then◌else◌, nat_eq, nat_lt, map, get_or}
+use Rattle.std.specs.Prelude.{◌||◌, if◌then◌else◌, nat_eq, nat_lt, map, get_or}
 use Rattle.std.proofs.lemmas.Bool.{and_parts}
 use Rattle.alg_terms.specs.declared.sorts.Sort.{Sort}
 use Rattle.alg_terms.specs.declared.sorts.Sort.TheVariants.{Nat, Int}
-use Rattle.alg_terms.specs.Tree.{Tree, Lit, Trees, Nil, Cons, of_list, sort_of_tree}
+use Rattle.alg_terms.specs.Tree.{Tree, Lit, Cons, of_list, sort_of_tree}
 use Rattle.alg_law.specs.declared.marks.Mark.TheVariants.{Good}
 use Rattle.alg_law.specs.declared.patterns.PatSort.{PatSort}
 use Rattle.alg_law.specs.declared.patterns.PatSort.TheVariants as of
 use Rattle.alg_law.specs.declared.rows.Need.{Need}
 use Rattle.alg_law.specs.Declarations.{Declaration}
-use Rattle.alg_law.specs.Having.{has_class}
 use Rattle.alg_law.specs.Lawful.{IsLawful}
 use Rattle.alg_law.specs.Patterns.{Pat, Letter, PLit, PApp, Pats, PNil, PCons, PatStatement, sort_for, letter_sort, index_in, fill, fills, fill_statement}
 use Rattle.alg_law.specs.LawRows.{parts}
 use Rattle.alg_law.specs.Rows.{meets_all}
 use Rattle.alg_law.specs.WellSorted.{class_mark, sort_mark, literal_class, head_mark, sorts_of, mark_of, marks_of, IsWellSorted, AreWellSorted}
 use Rattle.alg_law.specs.WellSortedLaws.{worse-good, worse-parts}
-use Rattle.alg_lemma.specs.Kinds.{kind_same, kind_has, head_fits}
+use Rattle.alg_lemma.specs.Kinds.{kind_same, head_fits}
 use Rattle.alg_lemma.specs.Fitting.{letter_kind, kind_of, kinds_of, is_letter, fits, all_fit}
 use Rattle.alg_lemma.specs.Putting.{kind_at, put, put_all, put_statement}
 use Rattle.alg_lemma.specs.Proving.{letters_match}

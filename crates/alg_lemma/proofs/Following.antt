@@ -12,22 +12,21 @@ use Rattle.alg_terms.specs.declared.symbols.Sym.TheVariants as sym
 use Rattle.alg_terms.specs.declared.relations.Rel.{Rel}
 use Rattle.alg_terms.specs.declared.relations.Rel.TheVariants.{Eq, Ne, Lt, Le, Dvd}
 use Rattle.alg_terms.specs.Symbols.{places}
-use Rattle.alg_terms.specs.Tree.{Tree, Lit, App, Trees, Nil, Cons, of_list, Statement, sort_of_tree, equal, product_tree}
+use Rattle.alg_terms.specs.Tree.{Tree, Lit, App, Nil, Cons, of_list, Statement, sort_of_tree, equal, product_tree}
 use Rattle.alg_law.specs.declared.classes.Class.TheVariants.{AddGroup, Group, Field, Semiring, CharZero}
 use Rattle.alg_law.specs.declared.marks.Mark.TheVariants.{Good}
 use Rattle.alg_law.specs.declared.patterns.PatSort.{PatSort}
-use Rattle.alg_law.specs.declared.patterns.PatSort.TheVariants as of
 use Rattle.alg_law.specs.declared.rows.Need.{Need}
 use Rattle.alg_law.specs.Declarations.{Declaration}
 use Rattle.alg_law.specs.Having.{has_class}
 use Rattle.alg_law.specs.Lawful.{IsLawful}
-use Rattle.alg_law.specs.Patterns.{Pat, PLit, PApp, Pats, PNil, PCons, PatStatement, sort_for, letter_sort, fill, fills, fill_statement}
+use Rattle.alg_law.specs.Patterns.{Pat, PLit, PApp, PNil, PCons, PatStatement, sort_for, letter_sort, fill, fills, fill_statement}
 use Rattle.alg_law.specs.LawRows.{parts}
 use Rattle.alg_law.specs.Rows.{Row, letters_of, meets_all, MayFill}
 use Rattle.alg_law.specs.Laws.{law_table, row_named}
 use Rattle.alg_law.specs.RowNames.{row_named-exact}
 use Rattle.alg_law.specs.WellSorted.{sort_mark, IsWellSorted, AreWellSorted}
-use Rattle.alg_law.specs.Derivations.{Derivable, AllDerivable, none, more, reflexive, symmetric, transitive, congruent, substitution, row, literal_law, distinct, smul_literal, zsmul_literal, zpow_literal, related, equations, count_of}
+use Rattle.alg_law.specs.Derivations.{Derivable, AllDerivable, none, more, reflexive, symmetric, transitive, congruent, substitution, row, literal_law, distinct, smul_literal, zsmul_literal, zpow_literal, equations, count_of}
 use Rattle.alg_proof.specs.declared.lines.BridgeKind.{BridgeKind}
 use Rattle.alg_proof.specs.declared.lines.BridgeKind.TheVariants.{Smul, Zsmul, Zpow}
 use Rattle.alg_proof.specs.Causes.{line_at, is_small, is_eq_rel}
@@ -37,10 +36,10 @@ use Rattle.alg_proof.specs.declared.lemma_rows.LemmaRow.{LemmaRow}
 use Rattle.alg_proof.specs.LiteralSums.{literal_sum, literal_product}
 use Rattle.alg_lemma.specs.Kinds.{kind_same, kind_has, needs_met}
 use Rattle.alg_lemma.specs.Fitting.{kind_of, kinds_of, fits, all_fit, statement_fits, statements_fit}
-use Rattle.alg_lemma.specs.Same.{pattern_same, pattern_statement_same, pattern_statements_same}
+use Rattle.alg_lemma.specs.Same.{pattern_same, pattern_statements_same}
 use Rattle.alg_lemma.specs.Putting.{put_statement}
 use Rattle.alg_lemma.specs.Proving.{then_with, only_where, relation_at, equal_at, pattern_equation, put_before, lines_at, flipped, chained, replaced, equations_only, left_patterns, right_patterns, same_kind, under, letters_match, row_at, cited, literal_sum_at, literal_product_at, literal_relation_at, bridge_sides, bridge_kind_has, bridge_at, said, fitting, conclude_pattern, conclusions, is_conclusion, ends_with, proves, is_absent, may_join}
-use Rattle.alg_lemma.proofs.Alike.{same_number, kind_same-equal, pattern_same-equal, pattern_statement_same-equal, pattern_statements_same-equal}
+use Rattle.alg_lemma.proofs.Alike.{kind_same-equal, pattern_same-equal, pattern_statement_same-equal, pattern_statements_same-equal}
 use Rattle.alg_lemma.proofs.Having.{kind_has-sound, kind_known, needs_met-sound, group_or_field}
 use Rattle.alg_lemma.proofs.Filled.{fill_statement-put, sort_of_filled, filled-good, list-good, list-sorts}
 

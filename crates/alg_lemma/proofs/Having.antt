@@ -1,5 +1,5 @@
 -- What is tested of the kinds of patterns holds of the sorts of their trees.
-use Rattle.std.proofs.Common.{◌≡◌, ℕ, suc, Bool, true, false, List, [], ◌∷◌, ◌++◌, ◌⊎◌, inl, inr, not, arith, refl, ap, ap₂, sym, ◌∙◌, subst}
+use Rattle.std.proofs.Common.{◌≡◌, suc, Bool, true, false, List, [], ◌∷◌, ◌++◌, ◌⊎◌, inl, inr, not, refl, ap, sym, ◌∙◌, subst}
 use Rattle.std.specs.Prelude.{◌&&◌, ◌||◌, if◌then◌else◌, nat_eq, map, length}
 use Rattle.std.proofs.lemmas.Bool.{and_parts}
 use Rattle.alg_terms.specs.declared.sorts.Sort.{Sort}
@@ -12,8 +12,7 @@ use Rattle.alg_terms.specs.Order.{sort_same, sort_same-self, sort_same-equal}
 use Rattle.alg_terms.specs.Symbols.{places, is_built_in, is_integral, serves, place_fits, places_fit, arguments_fit}
 use Rattle.alg_law.specs.declared.classes.Class.{Class}
 use Rattle.alg_law.specs.declared.classes.Class.TheVariants.{AddMonoid, Semigroup, AddGroup, Group, Field, Monoid, Semiring, Ring, IsStrictOrderedRing, LinearOrder, CharZero}
-use Rattle.alg_law.specs.declared.marks.Mark.{Mark}
-use Rattle.alg_law.specs.declared.marks.Mark.TheVariants.{Good, BadSort}
+use Rattle.alg_law.specs.declared.marks.Mark.TheVariants.{Good}
 use Rattle.alg_law.specs.declared.patterns.PatSort.{PatSort}
 use Rattle.alg_law.specs.declared.patterns.PatSort.TheVariants as of
 use Rattle.alg_law.specs.declared.rows.Need.{Need}
@@ -25,9 +24,9 @@ use Rattle.alg_law.specs.HavingLaws.{HaveAll, gives-have, has_class-complete, ha
 use Rattle.alg_law.specs.Lawful.{IsLawful}
 use Rattle.alg_law.specs.Patterns.{sort_for}
 use Rattle.alg_law.specs.Rows.{meets, meets_all}
-use Rattle.alg_law.specs.WellSorted.{class_mark, sort_mark, symbol_mark, built_in_mark, head_mark, has_classes}
+use Rattle.alg_law.specs.WellSorted.{sort_mark, symbol_mark, built_in_mark, head_mark, has_classes}
 use Rattle.alg_law.specs.WellSortedLaws.{worse-good}
-use Rattle.alg_lemma.specs.Kinds.{kind_same, granted, all_granted, lawful_beside, classes_of, kind_has, asks_naturals, is_natural, is_whole, need_met, needs_met, kind_fits, kinds_fit, kind_serves, kind_has_classes, head_fits}
+use Rattle.alg_lemma.specs.Kinds.{granted, all_granted, lawful_beside, kind_has, asks_naturals, is_natural, is_whole, need_met, needs_met, kind_fits, kinds_fit, kind_serves, kind_has_classes, head_fits}
 use Rattle.alg_lemma.proofs.Alike.{same_number, kind_same-equal}
 
 or_parts : (b d : Bool) → (b || d) ≡ true → (b ≡ true) ⊎ (d ≡ true)

@@ -27,3 +27,4 @@ pub mod WordLemmas
 pub mod PositivityLemmas
 pub mod FactorLemmas
 pub mod Lemmas
+pub mod LemmaNames

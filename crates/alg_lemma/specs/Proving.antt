@@ -1,5 +1,5 @@
 -- Proof lines over patterns: what each concludes, and when they prove the conclusion of a row from its premises.
-use Rattle.std.specs.Prelude.{ℕ, zero, suc, ◌+◌, ◌*◌, ◌-◌, ℤ, pos, negsuc, unsigned_abs, Bool, true, false, ◌&&◌, ◌||◌, not, nat_eq, List, [], ◌∷◌, ◌++◌, map, length, Option, Some, None, slice_get}
+use Rattle.std.specs.Prelude.{ℕ, ◌+◌, ◌*◌, ◌-◌, Bool, true, false, ◌&&◌, ◌||◌, not, nat_eq, List, [], ◌∷◌, ◌++◌, map, length, Option, Some, None, slice_get}
 use Rattle.alg_terms.specs.declared.symbols.Sym.{Sym}
 use Rattle.alg_terms.specs.declared.symbols.Sym.TheVariants as sym
 use Rattle.alg_terms.specs.declared.symbols.Place.{Place}
@@ -11,7 +11,7 @@ use Rattle.alg_law.specs.declared.classes.Class.TheVariants.{AddGroup, Group, Fi
 use Rattle.alg_law.specs.declared.patterns.PatSort.{PatSort}
 use Rattle.alg_law.specs.declared.patterns.PatSort.TheVariants as of
 use Rattle.alg_law.specs.declared.rows.Need.{Need}
-use Rattle.alg_law.specs.Patterns.{Pat, Letter, PLit, PApp, Pats, PNil, PCons, PatStatement}
+use Rattle.alg_law.specs.Patterns.{Pat, PLit, PApp, Pats, PNil, PCons, PatStatement}
 use Rattle.alg_law.specs.LawRows.{parts}
 use Rattle.alg_law.specs.Rows.{Row, letters_of}
 use Rattle.alg_law.specs.Laws.{law_table, row_named}

@@ -1,4 +1,4 @@
-use Rattle.std.specs.Prelude.{◌++◌, map, true}
+use Rattle.std.specs.Prelude.{◌++◌, map}
 use Rattle.alg_proof.specs.LemmaRows.{lemma_row_of, rows_of}
 use Rattle.alg_lemma.proofs.Adding.{IsLeft, added}
 use Rattle.alg_lemma.proofs.tables.add_all.Goals as goal

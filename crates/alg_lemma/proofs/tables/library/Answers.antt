@@ -1,9 +1,8 @@
-use Rattle.std.proofs.Common.{◌≡◌, ◌<◌, ◌≤◌, length, map, drop, arith, ap, sym, ◌∙◌, refl, subst, append-nil}
+use Rattle.std.proofs.Common.{◌≡◌, ◌<◌, length, arith, ap, sym, ◌∙◌}
 use Rattle.std.proofs.lemmas.List.{length-map}
-use Rattle.alg_law.specs.Laws.{rows_in}
-use Rattle.alg_proof.specs.LemmaRows.{lemma_row_of, rows_of}
+use Rattle.alg_proof.specs.LemmaRows.{rows_of}
 use Rattle.alg_lemma.specs.Lemmas.{lemma_groups, lemma_table}
-use Rattle.alg_lemma.proofs.Adding.{AreLeft, none_added, added_group, next_group, all_added}
+use Rattle.alg_lemma.proofs.Adding.{none_added, added_group, next_group, all_added}
 use Rattle.alg_lemma.proofs.tables.library.Goals as goal
 
 pub loop-group-init : goal.loop-group-init
