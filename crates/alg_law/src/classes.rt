@@ -189,7 +189,7 @@ impl Class {
 }
 
 /// The classes of a built-in sort, without those that follow from them.
-pub(crate) fn own(sort: Sort) -> &'static [Class]
+pub fn own(sort: Sort) -> &'static [Class]
     ensures { result.now ≡ own_classes sort }
 {
     match sort {
@@ -208,7 +208,8 @@ pub(crate) fn own(sort: Sort) -> &'static [Class]
     }
 }
 
-pub(crate) fn is_in(classes: &[Class], class: Class) -> bool
+/// Whether the class is among these.
+pub fn is_in(classes: &[Class], class: Class) -> bool
     ensures { result ≡ is_among classes.now class }
 {
     for c in classes {
@@ -219,7 +220,8 @@ pub(crate) fn is_in(classes: &[Class], class: Class) -> bool
     false
 }
 
-pub(crate) fn any_gives(classes: &[Class], class: Class) -> bool
+/// Whether one of these classes gives the class: it is that one, or implies it.
+pub fn any_gives(classes: &[Class], class: Class) -> bool
     ensures { result ≡ gives classes.now class }
 {
     for c in classes {
