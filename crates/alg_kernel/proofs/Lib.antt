@@ -3,3 +3,10 @@ pub mod SideLemmas
 pub mod PremiseLemmas
 pub mod CongLemmas
 pub mod NthLemmas
+pub mod FillingLemmas
+pub mod BridgeLemmas
+pub mod NumeralLemmas
+pub mod ValueLemmas
+pub mod KernelLemmas
+pub mod InstanceLemmas
+pub mod LetterLemmas

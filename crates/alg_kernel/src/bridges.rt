@@ -36,12 +36,7 @@ pub(crate) fn bridge(
 }
 
 // the equation of the two sides
-fn both_sides(
-    arena: &mut Arena,
-    kind: BridgeKind,
-    n: u128,
-    e: ExprId,
-) -> Result<Stmt, Memory>
+fn both_sides(arena: &mut Arena, kind: BridgeKind, n: u128, e: ExprId) -> Result<Stmt, Memory>
     requires here { IsIn arena.old e }
     requires small { n < 2 ^ 127 }
     ensures keeps { Extends arena.old arena.new }
@@ -110,17 +105,12 @@ fn literal_first(
 {
     let sort = arena.sort_of(e);
     let literal = arena.lit(of, n)?;
-    build(arena, sym, sort, &[literal, e])
+    let whole = build(arena, sym, sort, &[literal, e])?;
+    Ok(whole)
 }
 
 // a symbol over a tree of the value's sort and a literal of the sort `of`
-fn literal_last(
-    arena: &mut Arena,
-    sym: Sym,
-    of: Sort,
-    n: u128,
-    e: ExprId,
-) -> Result<ExprId, Memory>
+fn literal_last(arena: &mut Arena, sym: Sym, of: Sort, n: u128, e: ExprId) -> Result<ExprId, Memory>
     requires here { IsIn arena.old e }
     requires small { n < 2 ^ 127 }
     requires arity { arity_fits sym 2 ≡ true }
@@ -130,5 +120,6 @@ fn literal_last(
 {
     let sort = arena.sort_of(e);
     let literal = arena.lit(of, n)?;
-    build(arena, sym, sort, &[e, literal])
+    let whole = build(arena, sym, sort, &[e, literal])?;
+    Ok(whole)
 }

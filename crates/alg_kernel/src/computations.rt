@@ -1,6 +1,8 @@
 ghost use Rattle.std.specs.Prelude.{◌≡◌, List, All, IfOk, IfSome, map, option_map, true, pos, unsigned_abs};
 ghost use Rattle.alg_terms.specs.declared.relations.Rel.TheVariants as rel;
-ghost use Rattle.alg_terms.specs.Tree.{App, of_list, equal, sort_of_tree};
+ghost use Rattle.std.specs.Prelude.{◌<◌, ◌^◌};
+ghost use Rattle.alg_terms.specs.declared.symbols.Sym.TheVariants as sym;
+ghost use Rattle.alg_terms.specs.Tree.{Lit, App, Nil, Cons, of_list, equal, sort_of_tree};
 ghost use Rattle.alg_expr.specs.Ids.{IsIn, tree_of, trees_at, statement_of, IsStatementIn};
 ghost use Rattle.alg_expr.specs.Arena.{Extends, Imports};
 ghost use Rattle.alg_expr.specs.Applying.{sorts_at};
@@ -133,19 +135,38 @@ fn numeral(arena: &mut Arena, sort: Sort, number: i128) -> Result<ExprId, Memory
     ensures keeps { Extends arena.old arena.new }
     ensures made { IfOk result (λ e. Imports arena.old arena.new e (numeral_at sort number)) }
 {
-    let e = arena.lit(sort, number.unsigned_abs())?;
     if number < 0 {
-        build(arena, Sym::Neg, sort, &[e])
+        negative(arena, sort, number.unsigned_abs())
     } else {
-        Ok(e)
+        natural_literal(arena, sort, number.unsigned_abs())
     }
+}
+
+fn natural_literal(arena: &mut Arena, sort: Sort, value: u128) -> Result<ExprId, Memory>
+    requires { value < 2 ^ 127 }
+    ensures keeps { Extends arena.old arena.new }
+    ensures made { IfOk result (λ e. Imports arena.old arena.new e (Lit sort value)) }
+{
+    let e = arena.lit(sort, value)?;
+    Ok(e)
+}
+
+// the negation of a literal
+fn negative(arena: &mut Arena, sort: Sort, value: u128) -> Result<ExprId, Memory>
+    requires { value < 2 ^ 127 }
+    ensures keeps { Extends arena.old arena.new }
+    ensures made { IfOk result (λ e. Imports arena.old arena.new e (App sym.Neg sort (Cons (Lit sort value) Nil))) }
+{
+    let literal = arena.lit(sort, value)?;
+    let whole = build(arena, Sym::Neg, sort, &[literal])?;
+    Ok(whole)
 }
 
 fn has_numerals(base: &Base, sort: Sort, numbers: &[i128]) -> bool
     ensures { result ≡ has_numerals base.now sort numbers.now }
 {
     for number in numbers {
-        if !has_numeral(base, sort, *number) {
+        if !has_numeral(base, sort, number) {
             return false;
         }
     }
@@ -153,9 +174,10 @@ fn has_numerals(base: &Base, sort: Sort, numbers: &[i128]) -> bool
 }
 
 // whether the sort has the classes that the numeral needs
-fn has_numeral(base: &Base, sort: Sort, number: i128) -> bool
-    ensures { result ≡ has_numeral base.now sort number }
+fn has_numeral(base: &Base, sort: Sort, number: &i128) -> bool
+    ensures { result ≡ has_numeral base.now sort number.now }
 {
+    let number = *number;
     if number < 0 && !has(base, sort, Class::AddGroup) {
         return false;
     }
@@ -174,12 +196,7 @@ fn are_small(numbers: &[i128]) -> bool
 }
 
 // the value of the function on ℕ or ℤ, where there is one below the limit
-fn value(
-    alloc: Global,
-    sort: Sort,
-    sym: Sym,
-    numbers: &[i128],
-) -> Result<Option<i128>, Memory>
+fn value(alloc: Global, sort: Sort, sym: Sym, numbers: &[i128]) -> Result<Option<i128>, Memory>
     requires { are_small numbers.now ≡ true }
     ensures value { IfOk result (λ o. o ≡ value_at sort sym numbers.now) }
     ensures small { IfOk result (λ o. IfSome o InRange) }

@@ -137,12 +137,7 @@ fn place(
 }
 
 // the tree for a letter
-fn letter(
-    arena: &mut Arena,
-    letters: &[u8],
-    with: &[ExprId],
-    letter: u8,
-) -> Result<ExprId, Memory>
+fn letter(arena: &mut Arena, letters: &[u8], with: &[ExprId], letter: u8) -> Result<ExprId, Memory>
     requires with_in { All (IsIn arena.old) with.now }
     ensures keeps { Extends arena.old arena.new }
     ensures here { IfOk result (λ e. IsIn arena.new e) }
@@ -182,7 +177,10 @@ fn over_top(
     ensures put { IfOk result (λ o. (ds : List Declaration) (ts : List Tree) → AllStand ds arena.old (reverse stack.old.items) ts → Stands ds arena.new o (App sym sort (of_list (take (length (places sym)) ts))) × AllStand ds arena.new (reverse stack.new.items) (drop (length (places sym)) ts)) }
 {
     match sym.places().len() {
-        0 => apply(arena, sym, sort, &[]),
+        0 => {
+            let none = apply(arena, sym, sort, &[])?;
+            Ok(none)
+        }
         1 => over_first(arena, stack, sym, sort),
         _ => over_both(arena, stack, sym, sort),
     }
@@ -202,8 +200,14 @@ fn over_first(
     ensures put { IfOk result (λ o. (ds : List Declaration) (ts : List Tree) → AllStand ds arena.old (reverse stack.old.items) ts → Stands ds arena.new o (App sym sort (of_list (take 1 ts))) × AllStand ds arena.new (reverse stack.new.items) (drop 1 ts)) }
 {
     match stack.pop() {
-        None => apply(arena, sym, sort, &[]),
-        Some(a) => over_one(arena, sym, sort, a),
+        None => {
+            let none = apply(arena, sym, sort, &[])?;
+            Ok(none)
+        }
+        Some(a) => {
+            let one = over_one(arena, sym, sort, a)?;
+            Ok(one)
+        }
     }
 }
 
@@ -221,10 +225,19 @@ fn over_both(
     ensures put { IfOk result (λ o. (ds : List Declaration) (ts : List Tree) → AllStand ds arena.old (reverse stack.old.items) ts → Stands ds arena.new o (App sym sort (of_list (take 2 ts))) × AllStand ds arena.new (reverse stack.new.items) (drop 2 ts)) }
 {
     match stack.pop() {
-        None => apply(arena, sym, sort, &[]),
+        None => {
+            let none = apply(arena, sym, sort, &[])?;
+            Ok(none)
+        }
         Some(a) => match stack.pop() {
-            None => over_one(arena, sym, sort, a),
-            Some(b) => over_two(arena, sym, sort, a, b),
+            None => {
+                let one = over_one(arena, sym, sort, a)?;
+                Ok(one)
+            }
+            Some(b) => {
+                let two = over_two(arena, sym, sort, a, b)?;
+                Ok(two)
+            }
         },
     }
 }
@@ -269,12 +282,7 @@ fn over_two(
 }
 
 // the symbol over these trees, or none where arity or sorts don't fit
-fn apply(
-    arena: &mut Arena,
-    sym: Sym,
-    sort: Sort,
-    args: &[ExprId],
-) -> Result<Option<ExprId>, Memory>
+fn apply(arena: &mut Arena, sym: Sym, sort: Sort, args: &[ExprId]) -> Result<Option<ExprId>, Memory>
     requires { All (IsIn arena.old) args.now }
     ensures keeps { Extends arena.old arena.new }
     ensures top { IfOk result (λ o. IsEntryIn arena.new o) }

@@ -139,10 +139,26 @@ pub(crate) fn judge(
         Line::Cong(sym, parts) => cong_line(grounds, arena, done, *sym, parts.as_slice()),
         Line::Subst(i, j, k) => subst_line(arena, done, *i, *j, *k),
         Line::Law(name, sort, with, from) => {
-            law_line(grounds, arena, done, name, *sort, with.as_slice(), from.as_slice())
+            law_line(
+                grounds,
+                arena,
+                done,
+                name,
+                *sort,
+                with.as_slice(),
+                from.as_slice(),
+            )
         }
         Line::Lemma(name, sort, with, from) => {
-            lemma_line(grounds, arena, done, name, *sort, with.as_slice(), from.as_slice())
+            lemma_line(
+                grounds,
+                arena,
+                done,
+                name,
+                *sort,
+                with.as_slice(),
+                from.as_slice(),
+            )
         }
         Line::Hyp(n) => hypothesis(base, arena, *n),
         Line::Rest => rest_line(grounds, arena),
@@ -150,7 +166,13 @@ pub(crate) fn judge(
         Line::LitMul(sort, m, n) => product(base, arena, *sort, *m, *n),
         Line::LitRel(rel, sort, m, n) => relation(base, arena, *rel, *sort, *m, *n),
         Line::Bridge(kind, n, e) => bridge(base, arena, *kind, *n, *e),
-        Line::Compute(head, sort, numbers) => computation(base, arena, *head, *sort, numbers.as_slice()),
+        Line::Compute(head, sort, numbers) => computation(
+            base,
+            arena,
+            *head,
+            *sort,
+            numbers.as_slice(),
+        ),
     }
 }
 

@@ -1,3 +1,5 @@
+ghost use Rattle.std.specs.Prelude.{◌-◌, length, slice_get};
+ghost use Rattle.alg_proof.specs.Valid.{ends_in};
 ghost use Rattle.std.specs.Prelude.{◌≡◌, [], All, IfOk, OnOk, Option, option_map, true};
 ghost use Rattle.alg_expr.specs.Ids.{statement_of, statements_of, IsStatementIn};
 ghost use Rattle.alg_expr.specs.Arena.{Extends};
@@ -119,17 +121,37 @@ impl<'a> Kernel<'a> {
         ensures derivable { OnOk result (Follows (theory_of arena.now self.entry.grounds) (statement_of arena.now goal)) }
         ensures goal { IfOk result (λ c. c.goal ≡ goal) }
     {
-        if let Some(bad) = self.bad {
-            return Err(refused(bad));
+        self.end(arena, goal)
+    }
+
+    // what the lines come to
+    fn end(&self, arena: &Arena, goal: Stmt) -> Result<Checked, Refusal>
+        requires done_in { All (IsStatementIn arena.now) self.now.done.items }
+        requires goal_in { IsStatementIn arena.now goal }
+        ensures verdict { GivesVerdict result (outcome (progress_of arena.now self.now) (statement_of arena.now goal)) }
+        ensures goal { IfOk result (λ c. c.goal ≡ goal) }
+    {
+        match self.bad {
+            Some(bad) => Err(refused(bad)),
+            None => last_is(arena, &self.done, goal),
         }
-        match self.done.last() {
-            Some(s) => if same_statement(arena, s, &goal) {
-                Ok(Checked { goal })
-            } else {
-                Err(Refusal::WrongEnd)
-            },
-            None => Err(Refusal::WrongEnd),
-        }
+    }
+}
+
+// whether the last conclusion is the goal
+fn last_is(arena: &Arena, done: &[Stmt], goal: Stmt) -> Result<Checked, Refusal>
+    requires done_in { All (IsStatementIn arena.now) done.now }
+    requires goal_in { IsStatementIn arena.now goal }
+    ensures verdict { GivesVerdict result (ends_in (slice_get (statements_of arena.now done.now) (length (statements_of arena.now done.now) - 1)) (statement_of arena.now goal)) }
+    ensures goal { IfOk result (λ c. c.goal ≡ goal) }
+{
+    match done.last() {
+        Some(s) => if same_statement(arena, s, &goal) {
+            Ok(Checked { goal })
+        } else {
+            Err(Refusal::WrongEnd)
+        },
+        None => Err(Refusal::WrongEnd),
     }
 }
 

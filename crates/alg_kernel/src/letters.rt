@@ -1,3 +1,4 @@
+ghost use Rattle.std.specs.Prelude.{◌++◌, ◌||◌, if◌then◌else◌};
 ghost use Rattle.std.specs.Prelude.{◌≡◌, ◌∷◌, [], IfOk, map, length, take, drop};
 ghost use mathlib.Core.List.{reverse};
 ghost use Rattle.alg_terms.specs.Symbols.{places};
@@ -17,11 +18,20 @@ pub(crate) fn letters_of(alloc: Global, row: &Law) -> Result<Vec<u8>, Memory>
     let all: [u8; 8] = [0, 1, 2, 3, 4, 5, 6, 7];
     let mut found: Vec<u8> = Vec::new(alloc);
     for letter in all {
-        if occurs(alloc, row, letter)? {
-            found.push(letter)?;
-        }
+        let there = occurs(alloc, row, letter)?;
+        push_if(&mut found, letter, there)?;
     }
     Ok(found)
+}
+
+// adds the letter where it is there
+fn push_if(found: &mut Vec<u8>, letter: u8, there: bool) -> Result<(), Memory>
+    ensures { IfOk result (λ _. found.new.items ≡ (if there then found.old.items ++ letter ∷ [] else found.old.items)) }
+{
+    if there {
+        found.push(letter)?;
+    }
+    Ok(())
 }
 
 // whether the letter occurs in the conclusion or a premise
@@ -51,7 +61,13 @@ fn occurs_in(alloc: Global, pattern: &PatStmt, letter: u8) -> Result<bool, Memor
     let mut stack = occurs_each(alloc, pattern.nodes, letter)?;
     let left = top(&mut stack);
     let right = top(&mut stack);
-    Ok(left || right)
+    Ok(either(left, right))
+}
+
+fn either(a: bool, b: bool) -> bool
+    ensures { result ≡ (a || b) }
+{
+    a || b
 }
 
 // whether the letter occurs in each pattern that the nodes spell, the first on top

@@ -1,0 +1,14 @@
+use Rattle.std.proofs.Common.{◌≡◌}
+use Rattle.alg_expr.specs.Arena.{GrowsBy-Extends}
+use Rattle.alg_kernel.proofs.TreeLemmas.{grow-two}
+use Rattle.alg_kernel.proofs.BridgeLemmas.{last-made}
+use Rattle.alg_kernel.proofs.bridges.literal_last.Goals as goal
+
+pub returns-in_err-whole-clause-keeps : goal.returns-in_err-whole-clause-keeps
+returns-in_err-whole-clause-keeps c = rw c.in_err-whole.ensures.err (GrowsBy-Extends _ _ _ _ c.in_ok-literal.ensures.ok)
+
+pub returns-clause-keeps : goal.returns-clause-keeps
+returns-clause-keeps c = grow-two c.in_ok-literal.ensures.ok c.in_ok-whole.ensures.ok
+
+pub returns-clause-made : goal.returns-clause-made
+returns-clause-made c = last-made c.args.arena.now c.lit.new.self c.build.new.arena c.args.sym c.args.of c.args.n c.args.e c.in_ok-literal.literal c.in_ok-whole.whole c.sort_of-sort.result c.requires.here c.sort_of-sort.ensures c.in_ok-literal.ensures.ok c.in_ok-whole.ensures.ok
