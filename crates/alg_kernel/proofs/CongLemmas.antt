@@ -1,13 +1,13 @@
 -- What a congruence concludes, by its tests.
-use Rattle.std.proofs.Common.{◌≡◌, List, [], ◌∷◌, refl, ap, sym, ◌∙◌, subst, All, Bool, true, false, Option, Some, None, Result, Ok, Err}
+use Rattle.std.proofs.Common.{◌≡◌, List, refl, ap, sym, ◌∙◌, subst, Bool, true, false, Some, None, Result, Ok, Err}
 use Rattle.alg_terms.specs.declared.sorts.Sort.{Sort}
 use Rattle.alg_terms.specs.declared.symbols.Sym.{Sym}
 use Rattle.alg_terms.specs.declared.causes.BadCause.TheVariants as cause
 use Rattle.alg_terms.specs.Tree.{Tree, App, Statement, of_list, equal}
 use Rattle.alg_expr.specs.declared.ids.ExprId.{ExprId}
 use Rattle.alg_expr.specs.declared.ids.Stmt.{Stmt}
-use Rattle.alg_expr.specs.Ids.{trees_at, IsIn, statement_of, statements_of, IsStatementIn}
-use Rattle.alg_expr.specs.Applying.{arity_fits, sorts_fit, sorts_at}
+use Rattle.alg_expr.specs.Ids.{trees_at, statements_of}
+use Rattle.alg_expr.specs.Applying.{sorts_fit, sorts_at}
 use Rattle.alg_law.specs.declared.marks.Mark.{Mark}
 use Rattle.alg_law.specs.declared.marks.Mark.TheVariants.{Good, NoInstance, BadSort, BadName}
 use Rattle.alg_law.specs.Declarations.{Declaration}
@@ -18,7 +18,7 @@ use Rattle.alg_kernel.specs.declared.answers.Fault.{Fault}
 use Rattle.alg_kernel.specs.declared.answers.Fault.TheVariants as fault
 use Rattle.alg_kernel.specs.Answers.{IsJudged, IsPassed}
 use Rattle.alg_kernel.specs.Sides.{left_ids, right_ids}
-use Rattle.alg_kernel.proofs.SideLemmas.{left_sides-ids, right_sides-ids, left-sorts, right-sorts, lefts-in, rights-in, head-fits}
+use Rattle.alg_kernel.proofs.SideLemmas.{left_sides-ids, right_sides-ids, left-sorts, right-sorts, head-fits}
 
 -- what came of a look at a mark
 pub passed : (r : Result (Unit {0}) Fault) (m : Mark) (u : Unit {0}) → IsPassed r m → r ≡ Ok u → m ≡ Good

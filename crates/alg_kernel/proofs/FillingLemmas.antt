@@ -1,16 +1,15 @@
 -- A stack of ids that stand for trees, whose top is the last.
-use Rattle.std.proofs.Common.{◌≡◌, ℕ, zero, suc, ◌+◌, ◌-◌, ◌<◌, ◌≤◌, List, [], ◌∷◌, ◌++◌, get_or, take, drop, drop-cons, length, map, refl, ap, ap₂, sym, ◌∙◌, subst, arith, All, Bool, true, false, Option, Some, None}
-use Rattle.std.specs.Prelude.{IfSome}
+use Rattle.std.proofs.Common.{◌≡◌, ℕ, suc, ◌<◌, ◌≤◌, List, [], ◌∷◌, ◌++◌, get_or, take, drop, drop-cons, length, map, refl, ap, sym, ◌∙◌, subst, arith, All, true, false, Option, Some, None}
 use mathlib.Core.List.{reverse}
-use Rattle.std.proofs.lemmas.List.{map-append, reverse-append, take-map, drop-map}
-use Rattle.std.proofs.lemmas.List.Elements.{All-head, All-tail, All-push}
+use Rattle.std.proofs.lemmas.List.{reverse-append, take-map, drop-map}
+use Rattle.std.proofs.lemmas.List.Elements.{All-head, All-tail}
 use Rattle.std.proofs.Math.ListN.{get_or-append}
 use Rattle.std.proofs.Common.{length-append}
 use Rattle.alg_terms.specs.declared.sorts.Sort.{Sort}
 use Rattle.alg_terms.specs.declared.sorts.Sort.TheVariants.{Nat}
 use Rattle.alg_terms.specs.declared.symbols.Sym.{Sym}
 use Rattle.alg_terms.specs.Symbols.{places}
-use Rattle.alg_terms.specs.Tree.{Tree, Lit, App, Trees, Nil, Cons, of_list, Statement, sort_of_tree}
+use Rattle.alg_terms.specs.Tree.{Tree, Lit, App, Trees, Nil, Cons, of_list, sort_of_tree}
 use Rattle.alg_expr.specs.declared.ids.ExprId.{ExprId}
 use Rattle.alg_expr.specs.declared.ids.Stmt.{Stmt}
 use Rattle.alg_terms.specs.declared.symbols.Place.{Place}
@@ -24,7 +23,7 @@ use Rattle.alg_law.specs.declared.marks.Mark.TheVariants.{Good}
 use Rattle.alg_law.specs.Declarations.{Declaration}
 use Rattle.alg_law.specs.WellSorted.{head_mark, marks_of, sorts_of, IsWellSorted}
 use Rattle.alg_law.specs.WellSortedLaws.{worse-parts}
-use Rattle.alg_law.specs.Patterns.{Pat, Letter, PLit, PApp, Pats, PNil, PCons, sort_for, index_in, fill, fills, fill_statement}
+use Rattle.alg_law.specs.Patterns.{Pat, sort_for, fill, fills, fill_statement}
 use Rattle.alg_law.specs.LawRows.{parts, put, patterns, first_of, pattern_of}
 use Rattle.alg_kernel.specs.Filling.{Stands, AllStand, IsEntryIn, IsFilled, put_tree, filled}
 use Rattle.alg_kernel.proofs.TreeLemmas.{trees_at-extends}

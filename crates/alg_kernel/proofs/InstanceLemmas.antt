@@ -1,10 +1,10 @@
 -- Instances of rows, and their premises one by one.
-use Rattle.std.proofs.Common.{◌≡◌, ℕ, zero, suc, ◌+◌, ◌<◌, List, [], ◌∷◌, get_or, refl, ap, ap₂, sym, ◌∙◌, subst, All, map, length, arith, drop, drop-cons, Bool, true, false, ◌&&◌, Ok, Option, Some, None}
+use Rattle.std.proofs.Common.{◌≡◌, ℕ, zero, suc, ◌<◌, List, [], ◌∷◌, get_or, refl, ap, ap₂, sym, ◌∙◌, subst, All, map, length, arith, drop, drop-cons, Bool, true, false, ◌&&◌, Ok, Option}
 use Rattle.alg_terms.specs.declared.sorts.Sort.{Sort}
 use Rattle.alg_terms.specs.Tree.{Tree, Statement}
 use Rattle.alg_expr.specs.declared.ids.ExprId.{ExprId}
 use Rattle.alg_expr.specs.declared.ids.Stmt.{Stmt}
-use Rattle.alg_expr.specs.Ids.{tree_of, trees_at, IsIn, statement_of, statements_of, IsStatementIn}
+use Rattle.alg_expr.specs.Ids.{trees_at, IsIn, statement_of, statements_of, IsStatementIn}
 use Rattle.alg_expr.specs.Arena.{Extends, statement_of-extends}
 use Rattle.alg_law.specs.declared.patterns.PatStmt.{PatStmt}
 use Rattle.alg_law.specs.Declarations.{Declaration}

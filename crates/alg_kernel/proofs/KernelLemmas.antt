@@ -1,23 +1,21 @@
 -- A kernel after one more line, and after all.
-use Rattle.std.proofs.Common.{◌≡◌, ℕ, suc, ◌+◌, ◌-◌, ◌<◌, List, [], ◌∷◌, ◌++◌, get_or, length, drop, drop-cons, refl, ap, sym, ◌∙◌, subst, All, add-one, Option, Some, None, Result, Ok, Err, OnOk}
-use Rattle.std.specs.Prelude.{option_map, slice_get}
+use Rattle.std.proofs.Common.{◌≡◌, ℕ, suc, ◌+◌, ◌<◌, List, [], ◌∷◌, ◌++◌, get_or, length, drop, drop-cons, refl, ap, sym, ◌∙◌, subst, All, add-one, Option, Some, None, Result, Ok, Err, OnOk}
+use Rattle.std.specs.Prelude.{option_map}
 use Rattle.std.proofs.lemmas.List.{map-append}
 use Rattle.std.proofs.lemmas.List.Elements.{All-push}
 use Rattle.alg_terms.specs.Tree.{Tree, Statement}
 use Rattle.alg_expr.specs.declared.ids.Stmt.{Stmt}
 use Rattle.alg_expr.specs.Ids.{statement_of, statements_of, IsStatementIn}
-use Rattle.alg_expr.specs.Arena.{Extends, statement_of-extends, statements_of-extends, IsStatementIn-extends}
+use Rattle.alg_expr.specs.Arena.{Extends, statements_of-extends}
 use Rattle.alg_law.specs.declared.marks.Mark.{Mark}
 use Rattle.alg_law.specs.declared.marks.Mark.TheVariants.{Good}
-use Rattle.alg_law.specs.Declarations.{Declaration}
 use Rattle.alg_law.specs.Marks.{HasMarks}
 use Rattle.alg_law.specs.Derivations.{Derivable}
 use Rattle.alg_law.specs.WellSorted.{IsStatement}
 use Rattle.alg_proof.specs.declared.lines.Line.{Line}
-use Rattle.alg_proof.specs.Causes.{Concludes}
 use Rattle.alg_proof.specs.Lines.{step_of, steps_of, IsLineIn}
 use Rattle.alg_proof.specs.Steps.{Theory, Step, step_mark, conclude, conclude_named}
-use Rattle.alg_proof.specs.Valid.{Verdict, Accepted, BadAt, ends_in, verdict}
+use Rattle.alg_proof.specs.Valid.{Accepted, verdict}
 use Rattle.alg_proof.specs.Admissible.{AllFine, AllFine-push, IsFine, IsTheory, Follows, conclude-fine, verdict_from-fine, valid-derivable}
 use Rattle.alg_kernel.specs.declared.answers.Fault.{Fault}
 use Rattle.alg_kernel.specs.declared.answers.Fault.TheVariants as fault

@@ -1,7 +1,6 @@
 -- Which letters occur, node by node.
-use Rattle.std.proofs.Common.{◌≡◌, ℕ, suc, ◌+◌, ◌<◌, List, [], ◌∷◌, ◌++◌, get_or, take, drop, drop-cons, length, map, refl, ap, ap₂, sym, ◌∙◌, subst, add-one, append_assoc, Bool, true, false, if◌then◌else◌}
+use Rattle.std.proofs.Common.{◌≡◌, ℕ, suc, ◌+◌, ◌<◌, List, [], ◌∷◌, ◌++◌, get_or, take, drop, drop-cons, length, map, refl, ap, ap₂, sym, ◌∙◌, add-one, append_assoc, Bool, true, false, if◌then◌else◌}
 use Rattle.std.specs.Prelude.{◌||◌}
-use mathlib.Core.List.{reverse}
 use Rattle.std.proofs.lemmas.List.{take-map, drop-map}
 use Rattle.alg_terms.specs.Symbols.{places}
 use Rattle.alg_law.specs.declared.patterns.Pat.{Pat as Node}

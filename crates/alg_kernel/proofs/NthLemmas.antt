@@ -1,10 +1,10 @@
 -- Hypotheses one by one.
-use Rattle.std.proofs.Common.{◌≡◌, ℕ, zero, suc, ◌+◌, ◌-◌, ◌<◌, List, [], ◌∷◌, get_or, refl, ap, sym, ◌∙◌, length, arith, drop, drop-cons, Some, None, Option, slice_get, add-one}
+use Rattle.std.proofs.Common.{◌≡◌, ℕ, zero, suc, ◌+◌, ◌-◌, ◌<◌, List, ◌∷◌, get_or, refl, ap, sym, ◌∙◌, length, arith, drop, drop-cons, Some, None, Option, slice_get, add-one}
 use Rattle.alg_terms.specs.Tree.{Tree, Statement}
 use Rattle.alg_expr.specs.declared.ids.Stmt.{Stmt}
 use Rattle.alg_expr.specs.Ids.{statement_of}
 use Rattle.alg_law.specs.declared.declarations.Declared.{Declared}
-use Rattle.alg_law.specs.Declarations.{declaration_of, declarations_of, hypotheses, with_hypothesis}
+use Rattle.alg_law.specs.Declarations.{declarations_of, hypotheses}
 use Rattle.alg_kernel.specs.Answers.{TellsHypothesis}
 
 after : (h : Statement) (hs : List Statement) (k : ℕ) → (k ≡ 0 → ⊥) → slice_get (h ∷ hs) k ≡ slice_get hs (k - 1)

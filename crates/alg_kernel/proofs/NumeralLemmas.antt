@@ -1,8 +1,8 @@
 -- Numerals one by one.
-use Rattle.std.proofs.Common.{◌≡◌, ℕ, zero, suc, ◌+◌, ◌^◌, ◌<◌, List, [], ◌∷◌, ◌++◌, get_or, length, take, drop, drop-cons, map, refl, ap, sym, ◌∙◌, subst, arith, add-one, All, Bool, true, false, ◌&&◌}
+use Rattle.std.proofs.Common.{◌≡◌, ℕ, zero, suc, ◌+◌, ◌^◌, ◌<◌, List, [], ◌∷◌, ◌++◌, get_or, length, take, drop, drop-cons, map, refl, ap, sym, ◌∙◌, arith, add-one, All, true}
 use Rattle.std.proofs.Common.{to_z, of_z}
 use Rattle.std.proofs.lemmas.Int.{to_z-of_z, fits_signed_from_abs}
-use Rattle.std.specs.Int.{IsGcd, ◌∣◌, w128}
+use Rattle.std.specs.Int.{w128}
 use Rattle.std.specs.Prelude.{ℤ, pos, negsuc, unsigned_abs, nat_lt}
 use Rattle.std.proofs.lemmas.Bool.{and_parts}
 use Rattle.std.proofs.lemmas.Bool.Decides.{nat_tests}
@@ -10,11 +10,11 @@ use Rattle.std.proofs.lemmas.List.{map-append, take_more}
 use Rattle.std.proofs.lemmas.List.Elements.{All-push}
 use Rattle.alg_num.specs.Range.{InRange}
 use Rattle.alg_terms.specs.declared.sorts.Sort.{Sort}
-use Rattle.alg_terms.specs.Tree.{Tree, Lit, sort_of_tree}
+use Rattle.alg_terms.specs.Tree.{Tree, sort_of_tree}
 use Rattle.alg_expr.specs.declared.ids.ExprId.{ExprId}
 use Rattle.alg_expr.specs.Ids.{tree_of, trees_at, IsIn}
 use Rattle.alg_expr.specs.Arena.{Extends, Imports}
-use Rattle.alg_expr.specs.Applying.{arity_fits, sorts_fit, sorts_at}
+use Rattle.alg_expr.specs.Applying.{sorts_at}
 use Rattle.alg_law.specs.Declarations.{Declaration}
 use Rattle.alg_proof.specs.Computations.{numeral_at, numerals_at, has_numeral, has_numerals, is_small_integer, are_small, sorts_like}
 use Rattle.alg_kernel.proofs.TreeLemmas.{trees_at-extends, All-IsIn-extends}

@@ -1,17 +1,16 @@
 -- The sides of earlier lines as trees, and what a good mark of a symbol tells.
-use Rattle.std.proofs.Common.{◌≡◌, ℕ, zero, suc, ◌<◌, List, [], ◌∷◌, length, map, get_or, drop, drop-cons, drop_of_length-le, ◌≤◌, Some, None, refl, ap, sym, ◌∙◌, subst, arith, All, Bool, true, false, ◌&&◌, ◌||◌, not, nat_eq, if◌then◌else◌}
+use Rattle.std.proofs.Common.{◌≡◌, ℕ, zero, suc, ◌<◌, List, [], ◌∷◌, length, get_or, drop, drop-cons, Some, None, refl, ap, arith, All, Bool, true, false, ◌&&◌, nat_eq, if◌then◌else◌}
 use Rattle.std.proofs.lemmas.Bool.{and_parts}
 use Rattle.std.proofs.lemmas.Bool.Decides.{nat_tests}
-use Rattle.std.proofs.lemmas.List.{length-map}
 use Rattle.std.proofs.lemmas.List.Elements.{All-head, All-tail}
 use Rattle.alg_terms.specs.declared.sorts.Sort.{Sort}
 use Rattle.alg_terms.specs.declared.symbols.Sym.{Sym}
 use Rattle.alg_terms.specs.declared.symbols.Sym.TheVariants.{Add, Mul, Neg, Sub, Inv, Div, Npow, Zpow, Nsmul, Zsmul, Abs, Min, Max, NatSub, IDiv, Mod, Gcd, Lcm, Fact, Choose, Fib, Apply}
-use Rattle.alg_terms.specs.Symbols.{places, arguments_fit, is_built_in}
-use Rattle.alg_terms.specs.Tree.{Tree, Cons, of_list, Statement, sort_of_tree}
+use Rattle.alg_terms.specs.Symbols.{places, arguments_fit}
+use Rattle.alg_terms.specs.Tree.{Tree, Cons, of_list, sort_of_tree}
 use Rattle.alg_expr.specs.declared.ids.ExprId.{ExprId}
 use Rattle.alg_expr.specs.declared.ids.Stmt.{Stmt}
-use Rattle.alg_expr.specs.Ids.{tree_of, trees_at, IsIn, statement_of, statements_of, IsStatementIn}
+use Rattle.alg_expr.specs.Ids.{tree_of, trees_at, IsIn, statements_of, IsStatementIn}
 use Rattle.alg_expr.specs.Applying.{arity_fits, sorts_fit, sorts_at}
 use Rattle.alg_law.specs.declared.marks.Mark.{Mark}
 use Rattle.alg_law.specs.declared.marks.Mark.TheVariants.{Good, NoInstance, BadSort, BadName}

@@ -1,10 +1,10 @@
 -- A kernel stays sound, and where it was, as the arena grows.
-use Rattle.std.specs.Prelude.{◌≡◌, ℕ, ◌++◌, List, [], ◌∷◌, All, Option, Some, None, IfSome, option_map, refl}
-use Rattle.std.proofs.Common.{ap, sym, ◌∙◌, subst}
+use Rattle.std.specs.Prelude.{◌≡◌, List, [], ◌∷◌, All, Option, Some, None, option_map, refl}
+use Rattle.std.proofs.Common.{ap, sym, subst}
 use Rattle.alg_terms.specs.Tree.{Tree, Statement}
 use Rattle.alg_expr.specs.declared.ids.ExprId.{ExprId}
 use Rattle.alg_expr.specs.declared.ids.Stmt.{Stmt}
-use Rattle.alg_expr.specs.Ids.{tree_of, trees_at, IsIn, statement_of, statements_of, IsStatementIn}
+use Rattle.alg_expr.specs.Ids.{tree_of, trees_at, IsIn, statement_of, statements_of}
 use Rattle.alg_expr.specs.Arena.{Extends, IsIn-extends, tree_of-extends, statement_of-extends, statements_of-extends, IsStatementIn-extends}
 use Rattle.std.proofs.lemmas.List.Elements.{All-head, All-tail}
 use Rattle.alg_law.specs.Declarations.{Declaration}
@@ -13,7 +13,7 @@ use Rattle.alg_law.specs.WellSorted.{IsStatement}
 use Rattle.alg_proof.specs.declared.lines.Line.{Line}
 use Rattle.alg_proof.specs.declared.lines.Line.TheVariants as line
 use Rattle.alg_proof.specs.Lines.{step_of, IsLineIn}
-use Rattle.alg_proof.specs.Steps.{Theory, Step, Refl, Law, Lemma, Bridge}
+use Rattle.alg_proof.specs.Steps.{Refl, Law, Lemma, Bridge}
 use Rattle.alg_proof.specs.Admissible.{AllFine, IsTheory}
 use Rattle.alg_kernel.specs.declared.grounds.Grounds.{Grounds}
 use Rattle.alg_kernel.specs.declared.kernel.BadLine.{BadLine}

@@ -1,5 +1,5 @@
 -- How far a list of lines was followed.
-use Rattle.std.specs.Prelude.{◌≡◌, ℕ, suc, ◌-◌, List, [], ◌∷◌, ◌++◌, length, slice_get, Ok, Err}
+use Rattle.std.specs.Prelude.{ℕ, suc, ◌-◌, List, [], ◌∷◌, ◌++◌, length, slice_get, Ok, Err}
 use Rattle.alg_terms.specs.declared.causes.BadCause.{BadCause}
 use Rattle.alg_terms.specs.Tree.{Statement}
 use Rattle.alg_proof.specs.Causes.{Concludes}

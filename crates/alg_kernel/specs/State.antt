@@ -1,6 +1,5 @@
 -- What holds of the lines that were checked so far.
-use Rattle.std.specs.Prelude.{◌≡◌, ℕ, List, [], All, Option, Some, None, IfSome, option_map, Result, Ok, Err, ⊤}
-use Rattle.alg_terms.specs.declared.causes.BadCause.{BadCause}
+use Rattle.std.specs.Prelude.{◌≡◌, List, [], All, Option, Some, None, IfSome, option_map, Result, Ok, Err, ⊤}
 use Rattle.alg_terms.specs.Tree.{Tree, Statement}
 use Rattle.alg_expr.specs.declared.ids.Stmt.{Stmt}
 use Rattle.alg_expr.specs.Ids.{statement_of, statements_of, IsStatementIn}

@@ -5,8 +5,8 @@ use Rattle.alg_terms.specs.Tree.{Statement}
 use Rattle.std.proofs.Common.{ap, sym}
 use Rattle.alg_proof.specs.Causes.{Concludes}
 use Rattle.alg_proof.specs.Steps.{Theory, Step, conclude}
-use Rattle.alg_proof.specs.Valid.{BadAt, go_on, verdict_from, verdict}
-use Rattle.alg_kernel.specs.Progress.{Progress, Going, Stopped, after_line, next, advance, outcome}
+use Rattle.alg_proof.specs.Valid.{go_on, verdict_from, verdict}
+use Rattle.alg_kernel.specs.Progress.{Progress, Going, Stopped, after_line, advance, outcome}
 
 pub advance-stopped : (th : Theory) (n : ℕ) (c : BadCause) (ls : List Step) → advance th (Stopped n c) ls ≡ Stopped n c
 advance-stopped th n c [] = refl

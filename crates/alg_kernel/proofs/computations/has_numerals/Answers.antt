@@ -1,4 +1,4 @@
-use Rattle.std.proofs.Common.{◌≡◌, sym, ◌∙◌}
+use Rattle.std.proofs.Common.{sym, ◌∙◌}
 use Rattle.std.specs.Prelude.{pos}
 use Rattle.alg_kernel.proofs.NumeralLemmas.{numerals-next}
 use Rattle.alg_kernel.proofs.computations.has_numerals.Goals as goal

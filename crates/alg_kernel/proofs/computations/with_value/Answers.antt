@@ -1,8 +1,5 @@
-use Rattle.std.proofs.Common.{rules, ◌≡◌, length, ap}
-use Rattle.std.proofs.lemmas.List.{length-map}
 use Rattle.alg_expr.specs.Arena.{Extends-then, GrowsBy-Extends}
-use Rattle.alg_expr.specs.Applying.{sorts_at}
-use Rattle.alg_kernel.proofs.NumeralLemmas.{numerals-sorts, cast_back}
+use Rattle.alg_kernel.proofs.NumeralLemmas.{cast_back}
 use Rattle.alg_kernel.proofs.ValueLemmas.{value-arity, value-sorts, value-equation}
 use Rattle.alg_kernel.proofs.computations.with_value.Goals as goal
 

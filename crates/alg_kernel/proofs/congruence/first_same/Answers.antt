@@ -1,4 +1,4 @@
-use Rattle.std.proofs.Common.{rules, ◌≡◌, arith, sym, ◌∙◌, add-one, ap, drop, drop_of_length-le}
+use Rattle.std.proofs.Common.{rules, arith, sym, ◌∙◌, add-one, ap, drop, drop_of_length-le}
 use Rattle.alg_terms.specs.declared.symbols.Place.TheVariants.{Same}
 use Rattle.alg_expr.specs.Applying.{sorts_at}
 use Rattle.alg_proof.specs.Steps.{same_sort}

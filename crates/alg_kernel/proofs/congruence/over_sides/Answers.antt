@@ -1,4 +1,4 @@
-use Rattle.std.proofs.Common.{rules, ◌≡◌}
+use Rattle.std.proofs.Common.{rules}
 use Rattle.alg_kernel.proofs.SideLemmas.{lefts-in, rights-in}
 use Rattle.alg_kernel.proofs.CongLemmas.{cong-none, cong-refused, cong-shape, cong-good, left-fits, right-fits}
 use Rattle.alg_kernel.proofs.congruence.over_sides.Goals as goal

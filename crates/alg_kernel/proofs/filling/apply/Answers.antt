@@ -1,4 +1,3 @@
-use Rattle.std.proofs.Common.{◌≡◌}
 use Rattle.alg_kernel.proofs.FillingLemmas.{bad-arity, bad-sorts}
 use Rattle.alg_kernel.proofs.filling.apply.Goals as goal
 

@@ -1,4 +1,4 @@
-use Rattle.std.proofs.Common.{◌≡◌, ◌≤◌, drop, All, length, List}
+use Rattle.std.proofs.Common.{◌≤◌, drop, All, length, List}
 use mathlib.Core.List.{reverse}
 use Rattle.alg_expr.specs.Ids.{trees_at}
 use Rattle.alg_expr.specs.Arena.{Extends}

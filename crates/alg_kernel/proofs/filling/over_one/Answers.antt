@@ -1,4 +1,3 @@
-use Rattle.std.proofs.Common.{◌≡◌}
 use Rattle.alg_terms.specs.Tree.{Nil}
 use Rattle.alg_kernel.proofs.FillingLemmas.{first-bad}
 use Rattle.alg_kernel.proofs.filling.over_one.Goals as goal

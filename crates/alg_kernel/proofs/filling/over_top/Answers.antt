@@ -1,4 +1,3 @@
-use Rattle.std.proofs.Common.{◌≡◌}
 use Rattle.alg_kernel.proofs.FillingLemmas.{zero-put}
 use Rattle.alg_kernel.proofs.filling.over_top.Goals as goal
 

@@ -1,4 +1,3 @@
-use Rattle.std.proofs.Common.{◌≡◌}
 use Rattle.alg_terms.specs.Tree.{Nil, Cons}
 use Rattle.alg_kernel.proofs.FillingLemmas.{first-bad, second-bad}
 use Rattle.alg_kernel.proofs.filling.over_two.Goals as goal

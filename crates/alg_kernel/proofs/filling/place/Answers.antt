@@ -1,4 +1,3 @@
-use Rattle.std.proofs.Common.{◌≡◌}
 use Rattle.alg_kernel.proofs.FillingLemmas.{AllStand-push, lit-push}
 use Rattle.alg_kernel.proofs.filling.place.Goals as goal
 

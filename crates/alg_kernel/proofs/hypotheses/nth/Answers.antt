@@ -1,4 +1,4 @@
-use Rattle.std.proofs.Common.{rules, ◌≡◌, sym, subst, ◌+◌, arith, Some, None}
+use Rattle.std.proofs.Common.{subst, Some, None}
 use Rattle.alg_law.specs.declared.declarations.Declared.{Declared}
 use Rattle.alg_kernel.specs.Answers.{TellsHypothesis}
 use Rattle.alg_kernel.proofs.NthLemmas.{nth-skip, nth-pass}

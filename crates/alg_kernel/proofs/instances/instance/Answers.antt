@@ -1,4 +1,4 @@
-use Rattle.std.proofs.Common.{◌≡◌, sym, ap, subst, ◌∙◌, Ok}
+use Rattle.std.proofs.Common.{sym, ap, subst, ◌∙◌, Ok}
 use Rattle.alg_expr.specs.Ids.{statements_of, trees_at}
 use Rattle.alg_law.specs.LawRows.{row_of}
 use Rattle.alg_law.specs.WellSorted.{IsStatement}

@@ -1,4 +1,4 @@
-use Rattle.std.proofs.Common.{◌≡◌, sym, ap₂, ◌∙◌}
+use Rattle.std.proofs.Common.{sym, ap₂, ◌∙◌}
 use Rattle.alg_expr.specs.Ids.{statement_of, trees_at}
 use Rattle.alg_expr.specs.Arena.{statement_of-extends}
 use Rattle.alg_law.specs.LawRows.{pattern_of}

@@ -1,7 +1,6 @@
-use Rattle.std.proofs.Common.{rules, ◌≡◌, refl}
+use Rattle.std.proofs.Common.{rules}
 use Rattle.alg_expr.specs.Ids.{statements_of}
 use Rattle.alg_proof.specs.Lines.{step_of}
-use Rattle.alg_kernel.specs.State.{theory_of}
 use Rattle.alg_kernel.proofs.KernelLemmas.{named-statement}
 use Rattle.alg_kernel.proofs.judging.judge.Goals as goal
 

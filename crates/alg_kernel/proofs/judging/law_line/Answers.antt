@@ -1,4 +1,3 @@
-use Rattle.std.proofs.Common.{◌≡◌}
 use Rattle.std.specs.Prelude.{option_map}
 use Rattle.alg_expr.specs.Ids.{statement_of, statements_of}
 use Rattle.alg_proof.specs.Admissible.{fine_lines}

@@ -1,8 +1,7 @@
-use Rattle.std.proofs.Common.{rules, ◌≡◌, sym, subst}
+use Rattle.std.proofs.Common.{rules}
 use Rattle.alg_expr.specs.Ids.{statement_of}
 use Rattle.alg_expr.specs.Arena.{statement_of-extends}
 use Rattle.alg_proof.specs.Lines.{steps_of}
-use Rattle.alg_kernel.specs.declared.grounds.Grounds.{Grounds}
 use Rattle.alg_kernel.proofs.KernelLemmas.{accept-bad, accept-all, accept-derivable}
 use Rattle.alg_kernel.proofs.kernel.accept.Goals as goal
 

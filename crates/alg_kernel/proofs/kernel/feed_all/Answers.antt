@@ -1,4 +1,4 @@
-use Rattle.std.proofs.Common.{rules, ◌≡◌, refl, ◌∙◌}
+use Rattle.std.proofs.Common.{rules, refl, ◌∙◌}
 use Rattle.alg_expr.specs.Arena.{Extends-then}
 use Rattle.alg_proof.specs.Lines.{steps_of}
 use Rattle.alg_kernel.specs.State.{progress_of}

@@ -1,4 +1,4 @@
-use Rattle.std.proofs.Common.{◌≡◌, ◌∷◌, [], ◌∙◌, sym, map}
+use Rattle.std.proofs.Common.{◌∷◌, [], ◌∙◌, sym, map}
 use Rattle.alg_law.specs.LawRows.{pattern_of}
 use Rattle.alg_kernel.proofs.LetterLemmas.{letters-next}
 use Rattle.alg_kernel.proofs.letters.letters_of.Goals as goal

@@ -1,4 +1,4 @@
-use Rattle.std.proofs.Common.{◌≡◌, ◌∙◌}
+use Rattle.std.proofs.Common.{◌∙◌}
 use mathlib.Core.List.{reverse}
 use Rattle.alg_kernel.proofs.LetterLemmas.{both-occur}
 use Rattle.alg_kernel.proofs.letters.occurs_in.Goals as goal

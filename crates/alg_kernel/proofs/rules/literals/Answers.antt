@@ -1,4 +1,3 @@
-use Rattle.std.proofs.Common.{◌≡◌}
 use Rattle.alg_kernel.proofs.TreeLemmas.{grow-two, grow-three, grow-four, literal-equation}
 use Rattle.alg_kernel.proofs.rules.literals.Goals as goal
 

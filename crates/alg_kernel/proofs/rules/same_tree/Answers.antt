@@ -1,4 +1,3 @@
-use Rattle.std.proofs.Common.{◌≡◌}
 use Rattle.alg_kernel.proofs.TreeLemmas.{same-by-number}
 use Rattle.alg_kernel.proofs.rules.same_tree.Goals as goal
 

@@ -1,4 +1,4 @@
-use Rattle.std.proofs.Common.{rules, ◌≡◌, refl}
+use Rattle.std.proofs.Common.{rules, refl}
 use Rattle.alg_proof.specs.Lines.{step_of}
 use Rattle.alg_kernel.proofs.KernelLemmas.{sound-after, sound-push, line-fine}
 use Rattle.alg_kernel.proofs.kernel.Kernel.add.Goals as goal

@@ -1,4 +1,4 @@
-use Rattle.std.proofs.Common.{rules, ◌≡◌}
+use Rattle.std.proofs.Common.{rules}
 use Rattle.alg_proof.specs.Lines.{step_of}
 use Rattle.alg_kernel.specs.State.{theory_of}
 use Rattle.alg_kernel.proofs.KernelLemmas.{feed-good, feed-memory}
