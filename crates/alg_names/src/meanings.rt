@@ -4,7 +4,7 @@ use alg_expr::{Items, Rel, Sort, Sym};
 #[derive(Drop)]
 pub enum Meaning {
     /// A sort: a built-in one, or a type variable.
-    Type(Sort),
+    SortName(Sort),
     /// A variable, by the number of its declaration from 0, with its sort.
     Variable(u32, Sort),
     /// A function with the sorts of its arguments and of its value.
