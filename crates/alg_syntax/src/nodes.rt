@@ -55,6 +55,12 @@ impl<'a> Nodes<'a> {
         }
     }
 
+    pub fn len(&self) -> usize
+        ensures { result ≡ length self.now }
+    {
+        self.items.len()
+    }
+
     /// The root of an expression.
     pub fn get(&self, id: usize) -> &Node<'a>
         requires { id < length self.now }

@@ -1,0 +1,6 @@
+pub mod Applications
+pub mod LastArguments
+pub mod Leaves
+pub mod Marked
+pub mod Sorts
+pub mod SpineLemmas

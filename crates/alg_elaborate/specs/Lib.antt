@@ -1,0 +1,11 @@
+pub mod Combinations
+pub mod Faults
+pub mod Meanings
+pub mod Operations
+pub mod Raw
+pub mod RegionParts
+pub mod Regions
+pub mod Spines
+pub mod Statements
+pub mod Tasks
+pub mod TypedTrees
