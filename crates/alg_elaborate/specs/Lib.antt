@@ -1,5 +1,6 @@
 pub mod Combinations
 pub mod Faults
+pub mod Jobs
 pub mod Meanings
 pub mod Operations
 pub mod Raw

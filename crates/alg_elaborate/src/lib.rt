@@ -2,6 +2,7 @@
 //! trees.
 #![tactic(auto)]
 
+mod building;
 mod causes;
 mod combinations;
 mod faults;
@@ -10,5 +11,11 @@ mod node_faults;
 mod operations;
 mod regions;
 mod spines;
+mod statements;
 
+pub use building::build;
 pub use causes::Cause;
+pub use combinations::mark_proofs;
+pub use faults::first_fault;
+pub use meanings::type_of;
+pub use statements::{elaborate_statement, statement_sort};
