@@ -9,7 +9,7 @@ use Rattle.alg_law.specs.Declarations.{Declaration, Instance}
 use Rattle.alg_law.specs.Having.{has_class}
 use Rattle.alg_law.specs.WellSorted.{has_classes, has_relation}
 use Rattle.alg_names.specs.declared.meanings.Meaning.{Meaning}
-use Rattle.alg_names.specs.declared.scope.Granted.{Granted}
+use Rattle.alg_names.specs.declared.grants.Granted.{Granted}
 use Rattle.alg_names.specs.declared.scope.Scope.{Scope}
 use Rattle.alg_names.specs.Found.{found}
 
@@ -19,7 +19,7 @@ meaning s x = found s.names x
 
 -- the classes of the type variables, as declarations
 abbrev pub instances : Scope → List Declaration
-instances s = map (λ (g : Granted). Instance g.sort g.class) s.granted.items
+instances s = map (λ (g : Granted). Instance g.sort g.class) s.granted
 
 abbrev pub has : Scope → Sort → Class → Bool
 has s k c = has_class (instances s) k c

@@ -3,10 +3,12 @@
 
 mod built_in;
 mod classes;
+mod grants;
 mod meanings;
 mod names;
 mod scope;
 
+pub use grants::{Granted, Grants};
 pub use meanings::Meaning;
 pub use names::Names;
-pub use scope::{Granted, Scope};
+pub use scope::{Mark, Scope};

@@ -1,7 +1,7 @@
 use Rattle.std.proofs.Common.{◌≡◌, drop, List, map}
 use Rattle.alg_law.specs.Having.{instances_give}
 use Rattle.alg_law.specs.Declarations.{Declaration, Instance}
-use Rattle.alg_names.specs.declared.scope.Granted.{Granted}
+use Rattle.alg_names.specs.declared.grants.Granted.{Granted}
 use Rattle.alg_names.proofs.scope.any_grants.Given as goal
 
 abbrev granted : List Granted → List Declaration
