@@ -15,7 +15,7 @@ mod statements;
 
 pub use building::build;
 pub use causes::Cause;
-pub use combinations::mark_proofs;
+pub use combinations::{combines, is_marked, mark_proofs};
 pub use faults::first_fault;
 pub use meanings::type_of;
 pub use statements::{elaborate_statement, statement_sort};
