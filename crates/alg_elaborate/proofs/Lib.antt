@@ -1,0 +1,11 @@
+pub mod Applications
+pub mod Builds
+pub mod Compounds
+pub mod LastArguments
+pub mod LastJobs
+pub mod Leaves
+pub mod Marked
+pub mod Sides
+pub mod Sorts
+pub mod SpineLemmas
+pub mod Ups

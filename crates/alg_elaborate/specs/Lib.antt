@@ -1,0 +1,12 @@
+pub mod Combinations
+pub mod Faults
+pub mod Jobs
+pub mod Meanings
+pub mod Operations
+pub mod Raw
+pub mod RegionParts
+pub mod Regions
+pub mod Spines
+pub mod Statements
+pub mod Tasks
+pub mod TypedTrees
