@@ -4,6 +4,7 @@ ghost use Rattle.alg_terms.specs.Tree.{Tree};
 ghost use Rattle.alg_expr.specs.Ids.{statement_of};
 ghost use Rattle.alg_law.specs.Declarations as declarations;
 ghost use Rattle.alg_law.specs.Declarations.{Declaration, Instance, declaration_of};
+ghost use Rattle.alg_law.specs.Following.{needs, has_all, gives_again};
 ghost use Rattle.alg_law.specs.Having.{instances_give, is_decl};
 ghost use Rattle.alg_law.specs.WellSorted.{has_classes};
 ghost use Rattle.alg_names.specs.declared.grants.Granted as declared;
@@ -71,6 +72,27 @@ impl Scope {
         ensures { result ≡ has self.now sort class }
     {
         any_gives(own(sort), class) || any_grants(self.granted.as_slice(), sort, class)
+    }
+
+    /// Whether the class gives an operation that the sort has already.
+    pub fn gives_again(&self, sort: Sort, class: Class) -> bool
+        ensures { result ≡ gives_again (instances self.now) sort class }
+    {
+        (self.has(sort, Class::Semigroup) && is_in(class.all(), Class::Semigroup))
+            || (self.has(sort, Class::AddMonoid) && is_in(class.all(), Class::AddMonoid))
+            || (self.has(sort, Class::LinearOrder) && is_in(class.all(), Class::LinearOrder))
+    }
+
+    /// Whether the sort has the classes that must be there before a class is declared.
+    pub fn has_needs(&self, sort: Sort, class: Class) -> bool
+        ensures { result ≡ has_all (instances self.now) sort (needs class) }
+    {
+        match class {
+            Class::CharZero => self.has(sort, Class::Semiring),
+            Class::IsStrictOrderedRing => self.has(sort, Class::Semiring)
+                && self.has(sort, Class::LinearOrder),
+            _ => true,
+        }
     }
 
     /// Whether the symbol may have a value of the sort, and the sort has the classes that it needs.

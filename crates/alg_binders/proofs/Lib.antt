@@ -1,0 +1,5 @@
+pub mod Instances
+pub mod Kept
+pub mod Signatures
+pub mod Steps
+pub mod TakenLaws

@@ -1,0 +1,6 @@
+pub mod Adding
+pub mod Binders
+pub mod ClassNames
+pub mod CommandFaults
+pub mod Said
+pub mod Texts
