@@ -1,2 +1,5 @@
+pub mod Combined
+pub mod Files
 pub mod Procedures
 pub mod ScriptFaults
+pub mod Told
