@@ -1,3 +1,4 @@
+pub mod GoalParts
 pub mod Instances
 pub mod Kept
 pub mod Signatures

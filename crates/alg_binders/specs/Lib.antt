@@ -3,4 +3,5 @@ pub mod Binders
 pub mod ClassNames
 pub mod CommandFaults
 pub mod Said
+pub mod Stated
 pub mod Texts

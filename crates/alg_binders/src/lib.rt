@@ -5,10 +5,12 @@ mod adding;
 mod binders;
 mod class_names;
 mod domains;
+mod goals;
 mod taken;
 
 pub use adding::add_names;
 pub use binders::{add_binder, add_binders};
 pub use class_names::class_named;
 pub use domains::{Said, elaborate_domain};
+pub use goals::{Stated, elaborate_goal};
 pub use taken::taken_fault;
