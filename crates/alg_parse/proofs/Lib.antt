@@ -1,2 +1,1 @@
-pub mod FirstFaults
-pub mod Further
+pub mod Looked

@@ -1,5 +1,5 @@
 pub mod Combined
+pub mod Elaborated
 pub mod Files
 pub mod Procedures
-pub mod ScriptFaults
 pub mod Told

@@ -1,11 +1,10 @@
-//! The reader of a file: its commands, with the declarations, goals and scripts that they are, or their first causes.
+//! The reader of a file: its commands, with the declarations and goals that they are, or their first causes.
 #![tactic(auto)]
 
+mod commands;
 mod procedures;
-mod scripts;
+mod used_names;
 
+pub use commands::{Elaborated, elaborate_command};
 pub use procedures::{Proc, procedure_named};
-pub use scripts::script_fault;
-
-#[cfg(test)]
-mod tests;
+pub use used_names::UsedNames;
