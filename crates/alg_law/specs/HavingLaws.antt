@@ -276,3 +276,7 @@ has_class-decides ds s c r e = (λ t. has_class-sound ds s c (sym e ∙ t), λ h
 -- a sort has what its classes imply at once
 pub has_class-implied : (ds : List Declaration) (s : Sort) (c d : Class) → is_among (implied_by c) d ≡ true → has_class ds s c ≡ true → has_class ds s d ≡ true
 has_class-implied ds s c d e h = has_class-complete ds s d (implied s c d (has_class-sound ds s c h) e)
+
+-- and all that follows from them
+pub has_class-all : (ds : List Declaration) (s : Sort) (c d : Class) → is_among (all_of c) d ≡ true → has_class ds s c ≡ true → has_class ds s d ≡ true
+has_class-all ds s c d e h = has_class-complete ds s d (all_of-have ds s c (has_class-sound ds s c h) d e)

@@ -23,4 +23,6 @@ pub mod LawTableLaws
 pub mod LawRows
 pub mod RowNames
 pub mod LeanFunctions
+pub mod Computing
+pub mod ComputingLaws
 pub mod Derivations

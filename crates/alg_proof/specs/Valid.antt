@@ -2,17 +2,14 @@
 use Rattle.std.specs.Prelude.{◌≡◌, ℕ, suc, ◌-◌, Bool, ◌&&◌, if◌then◌else◌, List, [], ◌∷◌, ◌++◌, length, Option, Some, None, Ok, Err, slice_get}
 use Rattle.alg_terms.specs.declared.causes.BadCause.{BadCause}
 use Rattle.alg_terms.specs.Tree.{Statement}
-use Rattle.alg_terms.specs.Order.{tree_same, sort_same, rel_same}
-use Rattle.alg_proof.specs.Steps.{Theory, Step, Concludes, conclude}
+use Rattle.alg_proof.specs.Causes.{Concludes, statement_same}
+use Rattle.alg_proof.specs.Steps.{Theory, Step, conclude}
 
 -- what a list of lines comes to
 pub data Verdict : Type 0 where
   Accepted : Verdict
   BadAt : ℕ → BadCause → Verdict
   EndsWrong : Verdict
-
-abbrev pub statement_same : Statement → Statement → Bool
-statement_same a b = rel_same a.rel b.rel && sort_same a.sort b.sort && tree_same a.lhs b.lhs && tree_same a.rhs b.rhs
 
 abbrev pub ends_in : Option Statement → Statement → Verdict
 ends_in None s = EndsWrong

@@ -1,6 +1,12 @@
-//! Proof lines, what each concludes, and which lists of lines are valid.
+//! Proof lines, what each concludes, and which lists of lines are valid; rows of lemmas, and the table that holds them.
 #![tactic(auto)]
 
+pub mod lemma_rows;
+pub mod lemma_table;
 pub mod lines;
+pub mod row_names;
 
-pub use lines::Line;
+pub use lemma_rows::{LemmaRow, LemmaStep};
+pub use lemma_table::Lemmas;
+pub use lines::{BridgeKind, ComputeHead, Line};
+pub use row_names::RowName;

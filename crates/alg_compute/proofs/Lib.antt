@@ -1,0 +1,4 @@
+mod Answering
+mod Multiples
+mod Choosing
+mod Growing

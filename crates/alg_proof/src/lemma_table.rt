@@ -1,0 +1,78 @@
+ghost use Rattle.std.specs.Prelude.{◌≡◌, [], ◌∷◌, ◌++◌, length, map, All, None, IfOk, OnOk, OnErr, option_map};
+ghost use Rattle.alg_law.specs.Laws.{row_named};
+ghost use Rattle.alg_proof.specs.LemmaRows.{lemma_row_of, rows_of};
+ghost use Rattle.alg_proof.specs.Following.{IsAdmissible};
+
+use crate::lemma_rows::LemmaRow;
+use crate::row_names::RowName;
+use alg_expr::Memory;
+use std::alloc::Global;
+use std::marker::Model;
+
+/// A table of lemmas, each of which follows from the laws. It only grows. Contracts see the list of its rows.
+#[derive(Drop)]
+pub struct Lemmas {
+    rows: Vec<&'static LemmaRow>,
+}
+
+impl Model for Lemmas {
+    ghost use Rattle.std.specs.Prelude.{List, map, All};
+    ghost use Rattle.alg_proof.specs.declared.lemma_rows.LemmaRow.{LemmaRow};
+    ghost use Rattle.alg_proof.specs.LemmaRows.{lemma_row_of, rows_of};
+    ghost use Rattle.alg_proof.specs.Following.{IsAdmissible};
+
+    ghost Value = { List LemmaRow };
+
+    ghost view = { λ t. map (λ r. r.now) t.rows.items };
+
+    ghost invariant = { λ t. All IsAdmissible (rows_of (map (λ r. r.now) t.rows.items)) };
+}
+
+impl Lemmas {
+    /// The table without lemmas.
+    pub fn new(alloc: Global) -> Result<Lemmas, Memory>
+        ensures { IfOk result (λ t. t ≡ []) }
+    {
+        Ok(Lemmas {
+            rows: Vec::new(alloc),
+        })
+    }
+
+    /// Adds a lemma that follows from the laws, under a name that is new.
+    pub fn push(&mut self, row: &'static LemmaRow) -> Result<(), Memory>
+        requires admissible { IsAdmissible (lemma_row_of row.now) }
+        requires new { row_named (rows_of self.old) row.now.row.name.now ≡ None }
+        ensures ok { OnOk result (self.new ≡ self.old ++ row.now ∷ []) }
+        ensures err { OnErr result (self.new ≡ self.old) }
+    {
+        self.rows.push(row)?;
+        Ok(())
+    }
+
+    /// The lemma with this name, or none where none was added under it.
+    pub fn get(&self, name: &RowName) -> Option<&'static LemmaRow>
+        ensures row { option_map (λ r. lemma_row_of r.now) result ≡ row_named (rows_of self.now) name.now }
+    {
+        first_named(self.rows.as_slice(), name.as_str())
+    }
+
+    /// How many lemmas there are. Each follows from the laws.
+    pub fn len(&self) -> usize
+        ensures len { result ≡ length self.now }
+        ensures admissible { All IsAdmissible (rows_of self.now) }
+    {
+        self.rows.len()
+    }
+}
+
+// the first lemma with this name
+fn first_named(rows: &[&'static LemmaRow], name: &str) -> Option<&'static LemmaRow>
+    ensures { option_map (λ r. lemma_row_of r.now) result ≡ row_named (rows_of (map (λ r. r.now) rows.now)) name.now }
+{
+    for row in rows {
+        if row.row.name == name {
+            return Some(*row);
+        }
+    }
+    None
+}
