@@ -1,0 +1,4 @@
+pub mod Decimals
+pub mod Turns
+pub mod Lexing
+pub mod Cutting

@@ -1,0 +1,5 @@
+pub mod Numbers
+pub mod Tokens
+pub mod Seen
+pub mod Lexed
+pub mod Cutting
