@@ -3,3 +3,8 @@ pub mod Tokens
 pub mod Seen
 pub mod Lexed
 pub mod Cutting
+pub mod Words
+pub mod Spelling
+pub mod Patterns
+pub mod Walks
+pub mod Reader

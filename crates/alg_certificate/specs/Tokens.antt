@@ -1,5 +1,5 @@
 -- The tokens of a line, their bytes, and how the first is read.
-use Rattle.std.specs.Prelude.{◌≡◌, ℕ, ◌≤◌, Bool, true, false, ◌&&◌, ◌||◌, List, [], ◌∷◌, ◌++◌, Some, None, nat_le, ◌==◌, if◌then◌else◌, decimal, option_map}
+use Rattle.std.specs.Prelude.{◌≡◌, ℕ, ◌≤◌, Bool, true, false, ◌&&◌, ◌||◌, List, [], ◌∷◌, ◌++◌, Option, Some, None, nat_le, ◌==◌, if◌then◌else◌, decimal, option_map}
 use Rattle.alg_certificate.specs.Numbers.{Read, read_number, max_number}
 
 pub data Tok : Type 0 where
@@ -56,6 +56,10 @@ front (c ∷ cs) = if is_word c then c ∷ front cs else []
 abbrev pub behind : List ℕ → List ℕ
 behind [] = []
 behind (c ∷ cs) = if is_word c then behind cs else c ∷ cs
+
+-- the word at the front, where there is one, and what follows it
+abbrev pub first_word : List ℕ → Option (List ℕ × List ℕ)
+first_word cs = if begins_word cs then Some (front cs, behind cs) else None
 
 -- a word that is not empty is made a token
 abbrev pub word_then : (List ℕ → List ℕ → Read Tok) → List ℕ → Read Tok

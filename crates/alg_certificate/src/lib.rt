@@ -3,4 +3,10 @@
 
 mod bytes;
 mod numbers;
+mod patterns;
+pub mod reader;
 mod tokens;
+mod walks;
+mod words;
+
+pub use reader::{CertFault, CertLine, CertReader};

@@ -40,7 +40,7 @@ fn word_length(bytes: &[u8]) -> usize
 }
 
 // The word at the front, and what follows it.
-fn cut_word(bytes: &[u8]) -> Option<(&[u8], &[u8])>
+pub(crate) fn cut_word(bytes: &[u8]) -> Option<(&[u8], &[u8])>
     ensures { option_map {U = List ℕ × List ℕ} (λ x. (x.0.now, x.1.now)) result ≡ (if begins_word bytes.now then Some (front bytes.now, behind bytes.now) else None) }
 {
     let count = word_length(bytes);
