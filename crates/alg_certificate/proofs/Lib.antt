@@ -6,3 +6,4 @@ pub mod OneList
 pub mod AllTokens
 pub mod Walking
 pub mod Steps
+pub mod Pieces

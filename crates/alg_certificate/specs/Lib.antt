@@ -8,3 +8,4 @@ pub mod Spelling
 pub mod Patterns
 pub mod Walks
 pub mod Reader
+pub mod Pending

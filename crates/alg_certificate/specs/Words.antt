@@ -1,5 +1,6 @@
 -- The words of a certificate's lines: how sorts, symbols, relations and numbers are spelled, and which words are such.
-use Rattle.std.specs.Prelude.{◌≡◌, ℕ, ℤ, pos, negsuc, suc, Bool, true, false, ◌&&◌, ◌||◌, not, ◌==◌, List, [], ◌∷◌, Option, Some, None, codes, decimal}
+use Rattle.std.specs.Prelude.{◌≡◌, ℕ, ℤ, Bool, true, false, ◌&&◌, ◌||◌, not, ◌==◌, List, [], ◌∷◌, Option, Some, None, codes, decimal}
+use Rattle.std.specs.Fmt.{signed_decimal}
 use Rattle.alg_terms.specs.declared.sorts.Sort.{Sort}
 use Rattle.alg_terms.specs.declared.sorts.Sort.TheVariants as sort
 use Rattle.alg_terms.specs.declared.symbols.Sym.{Sym}
@@ -61,8 +62,7 @@ head_bytes head.Dvd = codes "dvd"
 
 -- a number below 0 has a sign
 abbrev pub numeral_bytes : ℤ → List ℕ
-numeral_bytes (pos n) = decimal n
-numeral_bytes (negsuc n) = 45 ∷ decimal (suc n)
+numeral_bytes x = signed_decimal x
 
 abbrev pub leaves_nothing : Option (List ℕ) → Bool
 leaves_nothing None = false

@@ -6,7 +6,11 @@ mod numbers;
 mod patterns;
 pub mod reader;
 mod tokens;
+mod trees;
 mod walks;
 mod words;
+mod writer;
+mod writing;
 
 pub use reader::{CertFault, CertLine, CertReader};
+pub use writer::{write_given, write_goal, write_line};
