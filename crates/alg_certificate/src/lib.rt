@@ -5,6 +5,8 @@ mod bytes;
 mod numbers;
 mod patterns;
 pub mod reader;
+#[cfg(test)]
+mod tests;
 mod tokens;
 mod trees;
 mod walks;

@@ -162,6 +162,7 @@ fn is_over(rest: &[u8], state: State) -> bool
 }
 
 /// The lines of a certificate behind its first, one after another. Takes no memory.
+#[derive(Drop)]
 pub struct CertReader<'a> {
     rest: &'a [u8],
     total: usize,

@@ -3,7 +3,7 @@ ghost use Rattle.alg_expr.specs.Ids.{IsIn, tree_of, trees_at, statement_of, IsSt
 ghost use Rattle.alg_proof.specs.Lines.{step_of, IsLineIn};
 ghost use Rattle.alg_certificate.specs.Numbers.{max_number};
 ghost use Rattle.alg_certificate.specs.Words.{sort_bytes, symbol_bytes, relation_bytes, bridge_bytes, head_bytes};
-ghost use Rattle.alg_certificate.specs.Spelling.{bytes, spell_items, word, tree, semicolon, numbers, numerals, trees_before, step_bytes, given_bytes, goal_bytes, HasSpelling, StatementHasSpelling};
+ghost use Rattle.alg_certificate.specs.Spelling.{bytes, spell_items, word, tree, semicolon, numbers, numerals, trees_before, step_bytes, given_bytes, goal_bytes};
 
 use crate::trees::put_trees;
 use crate::writing::{
@@ -195,10 +195,10 @@ fn put_line(arena: &Arena, line: &Line, text: &mut Vec<u8>) -> Result<(), Memory
     }
 }
 
-/// Adds the text of a proof line, without its line feed. After Memory `out` is as it was.
+/// Adds the text of a proof line, without its line feed. Certificates have only numbers up to 2^127 - 1, at least one
+/// argument in a node and one item behind `cong` and `compute`. After Memory `out` is as it was.
 pub fn write_line(arena: &Arena, line: &Line, out: &mut Vec<u8>) -> Result<(), Memory>
-    requires here { IsLineIn arena.now line.now }
-    requires spelled { HasSpelling (step_of arena.now line.now) }
+    requires { IsLineIn arena.now line.now }
     ensures written { OnOk result (out.new.items ≡ out.old.items ++ step_bytes (step_of arena.now line.now)) }
     ensures memory { OnErr result (out.new.items ≡ out.old.items) }
 {
@@ -210,8 +210,7 @@ pub fn write_line(arena: &Arena, line: &Line, out: &mut Vec<u8>) -> Result<(), M
 
 /// Adds the text of a given statement's line, without its line feed. After Memory `out` is as it was.
 pub fn write_given(arena: &Arena, s: Stmt, out: &mut Vec<u8>) -> Result<(), Memory>
-    requires here { IsStatementIn arena.now s }
-    requires spelled { StatementHasSpelling (statement_of arena.now s) }
+    requires { IsStatementIn arena.now s }
     ensures written { OnOk result (out.new.items ≡ out.old.items ++ given_bytes (statement_of arena.now s)) }
     ensures memory { OnErr result (out.new.items ≡ out.old.items) }
 {
