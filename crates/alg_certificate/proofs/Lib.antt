@@ -7,3 +7,6 @@ pub mod AllTokens
 pub mod Walking
 pub mod Steps
 pub mod Pieces
+pub mod WordLaws
+pub mod ItemLaws
+pub mod LineLaws

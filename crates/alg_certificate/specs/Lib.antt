@@ -9,3 +9,4 @@ pub mod Patterns
 pub mod Walks
 pub mod Reader
 pub mod Pending
+pub mod Items

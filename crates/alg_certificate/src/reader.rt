@@ -3,6 +3,7 @@ ghost use Rattle.alg_certificate.specs.Numbers.{read_number};
 ghost use Rattle.alg_certificate.specs.Cutting.{is_empty};
 ghost use Rattle.alg_certificate.specs.Tokens.{first_word};
 ghost use Rattle.alg_certificate.specs.Reader.{TextLine, of_number, of_pattern, of_head, of_word, kind_of, outside_line, proving_line, begun_line, line_in, may_end, seen_line, coming_of, Comes};
+ghost use Rattle.alg_certificate.specs.Items.{Spelled};
 ghost use Rattle.alg_certificate.specs.Patterns.{given_pattern, pattern_of};
 ghost use Rattle.alg_certificate.specs.declared.reader.State.{State};
 
@@ -201,9 +202,11 @@ impl<'a> CertReader<'a> {
     }
 
     /// The next line, None behind the last, or where no line begins that may stand there. After a fault every
-    /// call answers the same fault, and after None every call None.
+    /// call answers the same fault, and after None every call None. A text is spelled by the table of what may stand
+    /// behind each first word.
     pub fn next(&mut self) -> Result<Option<CertLine<'a>>, CertFault>
-        ensures { Comes self.old self.new result }
+        ensures comes { Comes self.old self.new result }
+        ensures spelled { Spelled result }
     {
         let offset = self.total - self.rest.len();
         let Some((text, rest)) = cut_line(self.rest) else {
