@@ -1,5 +1,5 @@
 -- What a reader of tokens passes over is items that the parts ask for.
-use Rattle.std.proofs.Common.{◌≡◌, ℕ, zero, suc, Bool, true, false, ◌&&◌, List, [], ◌∷◌, ◌++◌, length, Option, Some, None, refl, sym, ap, subst, ◌∙◌, arith, append_assoc, append-nil, if◌then◌else◌}
+use Rattle.std.proofs.Common.{◌≡◌, ℕ, zero, suc, Bool, true, false, List, [], ◌∷◌, ◌++◌, length, Option, Some, None, refl, sym, ap, subst, ◌∙◌, arith, append_assoc, append-nil, if◌then◌else◌}
 use Rattle.std.proofs.lemmas.Bool.{and_parts}
 use Rattle.std.proofs.lemmas.Option.{none-some}
 use Rattle.alg_terms.specs.declared.sorts.Sort.TheVariants.{Nat}
@@ -12,10 +12,10 @@ use Rattle.alg_certificate.specs.declared.walks.Spot.TheVariants.{Between, Befor
 use Rattle.alg_certificate.specs.Tokens.{Tok, Blank, Close, Semi, Open, Lit, Var, Word}
 use Rattle.alg_certificate.specs.Cutting.{is_empty}
 use Rattle.alg_certificate.specs.Lexed.{tokens}
-use Rattle.alg_certificate.specs.Words.{symbol_bytes, sort_bytes, is_sort, is_symbol}
+use Rattle.alg_certificate.specs.Words.{is_sort, is_symbol}
 use Rattle.alg_certificate.specs.Spelling.{spell, spell_all, Item, tree, word, semicolon, spell_item, spell_items, IsSome, TreeFits, TreesFit, bytes}
-use Rattle.alg_certificate.specs.Walks.{Standing, is_tree_slot, is_semicolon_slot, word_fits, fits, first_fit, may_stop, opens, begun, go, walks, walks_all, allows}
-use Rattle.alg_certificate.specs.Items.{FitsSlot, AllFit, Matches, AreItems}
+use Rattle.alg_certificate.specs.Walks.{Standing, is_tree_slot, fits, first_fit, may_stop, opens, begun, go, walks, allows}
+use Rattle.alg_certificate.specs.Items.{FitsSlot, Matches, AreItems}
 use Rattle.alg_certificate.proofs.AllTokens.{AllGood, tokens_sound}
 use Rattle.alg_certificate.proofs.Decimals.{some_is}
 use Rattle.alg_certificate.proofs.WordLaws.{sort_is, symbol_is}
@@ -121,8 +121,8 @@ add_argument ps d ts b =
       items = r.items;
       matches = r.matches;
       same = ap (λ x. Blank ∷ x) (b.same ∙ (ap (λ x. spell b.tree ++ x) r.same
-        ∙ (sym (append_assoc (spell b.tree) (closing (r.args ∷ r.more)) (spell_items r.items))
-        ∙ ap (λ x. x ++ spell_items r.items) (sym (append_assoc (spell b.tree) (spell_all r.args) (Close ∷ closing r.more))))));
+          ∙ (sym (append_assoc (spell b.tree) (closing (r.args ∷ r.more)) (spell_items r.items))
+          ∙ ap (λ x. x ++ spell_items r.items) (sym (append_assoc (spell b.tree) (spell_all r.args) (Close ∷ closing r.more))))));
     }
 
 close_last : (ps : List Part) (ts : List Tok) → Items ps ts → Opens ps 0 (Close ∷ ts)
@@ -149,7 +149,7 @@ node_at ps d w ts e s = node_by s.opened.more s.opened.size s.opened.more_fit s.
           rest = rest;
           opened = record { args = us; more = more; size = omega (arith, size); args_fit = fit.0; more_fit = fit.1; items = s.opened.items; matches = s.opened.matches; same = refl };
           same = ap (λ x. Open w ∷ x) (same ∙ append_assoc (spell_all s.opened.args) (Close ∷ closing (us ∷ more)) (spell_items s.opened.items))
-            ∙ (node_text w s.opened.args rest ∙ ap (λ x. (Open x ∷ (spell_all s.opened.args ++ Close ∷ [])) ++ rest) (sym f.2));
+              ∙ (node_text w s.opened.args rest ∙ ap (λ x. (Open x ∷ (spell_all s.opened.args ++ Close ∷ [])) ++ rest) (sym f.2));
         }
 
 first_node : (ps qs : List Part) (w : List ℕ) (ts : List Tok) → first_fit ps (Open w) ≡ Some qs → Starts qs 0 ts → Comes ps (Open w ∷ ts)

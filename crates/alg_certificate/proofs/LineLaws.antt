@@ -1,5 +1,5 @@
 -- A line that is read is one of the grammar.
-use Rattle.std.proofs.Common.{◌≡◌, ℕ, Bool, true, false, ◌&&◌, List, [], ◌∷◌, ◌++◌, Option, Some, None, ◌==◌, codes, refl, sym, ap, subst, ◌∙◌, if◌then◌else◌}
+use Rattle.std.proofs.Common.{◌≡◌, ℕ, Bool, true, false, List, ◌++◌, Option, Some, None, ◌==◌, codes, refl, sym, ap, subst, ◌∙◌, if◌then◌else◌}
 use Rattle.std.proofs.lemmas.Option.{none-some}
 use Rattle.alg_certificate.specs.declared.patterns.Part.{Part}
 use Rattle.alg_certificate.specs.declared.reader.Kind.{Kind}
@@ -12,7 +12,7 @@ use Rattle.alg_certificate.specs.Cutting.{after, is_empty}
 use Rattle.alg_certificate.specs.Words.{is_word_of}
 use Rattle.alg_certificate.specs.Patterns.{Pattern, pattern_of, given_pattern}
 use Rattle.alg_certificate.specs.Walks.{allows}
-use Rattle.alg_certificate.specs.Reader.{TextLine, goal_line, given_line, proof_line, end_line, of_number, of_pattern, of_head, of_word, of_goal, kind_of, outside_line, proving_line, begun_line, line_in}
+use Rattle.alg_certificate.specs.Reader.{TextLine, goal_line, given_line, proof_line, end_line, of_number, of_pattern, of_word, of_goal, kind_of, outside_line, proving_line, begun_line, line_in}
 use Rattle.alg_certificate.specs.Items.{IsProofText, IsGivenText, IsSpelled}
 use Rattle.alg_certificate.proofs.Decimals.{some_is}
 use Rattle.alg_certificate.proofs.Lexing.{parts}

@@ -1,5 +1,5 @@
 -- Bytes have one list of tokens.
-use Rattle.std.proofs.Common.{◌≡◌, ℕ, List, [], ◌∷◌, ◌++◌, refl, sym, ap}
+use Rattle.std.proofs.Common.{◌≡◌, ℕ, List, [], ◌∷◌, ◌++◌, refl, sym}
 use Rattle.alg_certificate.specs.Tokens.{Tok, Blank, Close, Semi, Open, Lit, Var, Word, token_bytes, Good}
 use Rattle.alg_certificate.specs.Spelling.{bytes}
 use Rattle.alg_certificate.proofs.Lexing.{Stops, one_token}

@@ -1,5 +1,5 @@
 -- What is pending, and how it is written.
-use Rattle.std.proofs.Common.{◌≡◌, ℕ, ◌+◌, ◌<◌, List, [], ◌∷◌, ◌++◌, length, All, Some, refl, sym, ap, subst, ◌∙◌, arith, append_assoc, append-nil, length-append}
+use Rattle.std.proofs.Common.{◌≡◌, ℕ, ◌<◌, List, [], ◌∷◌, ◌++◌, length, All, Some, refl, sym, ap, subst, ◌∙◌, arith, append_assoc, append-nil, length-append}
 use Rattle.std.proofs.lemmas.List.Elements.{All-push, All-pop}
 use Rattle.std.specs.Borrow.{Bor}
 use Rattle.alg_terms.specs.declared.sorts.Sort.{Sort}
@@ -9,7 +9,7 @@ use Rattle.alg_certificate.specs.Words.{symbol_bytes}
 use Rattle.alg_expr.specs.declared.ids.ExprId.{ExprId}
 use Rattle.alg_expr.specs.Ids.{IsIn, tree_of, trees_at}
 use Rattle.alg_certificate.specs.Tokens.{Tok, Blank, Close, token_bytes}
-use Rattle.alg_certificate.specs.Spelling.{bytes, spell, spell_all, Item, tree, semicolon, numbers, spell_items, trees_before}
+use Rattle.alg_certificate.specs.Spelling.{bytes, spell, spell_all, Item, semicolon, numbers, spell_items, trees_before}
 use Rattle.alg_certificate.specs.Pending.{pending, rest_of_node, AreInside}
 
 pub bytes_append : (xs ys : List Tok) → bytes (xs ++ ys) ≡ bytes xs ++ bytes ys

@@ -1,5 +1,5 @@
 -- The loop over the tokens of a line's items.
-use Rattle.std.proofs.Common.{◌≡◌, ℕ, ◌+◌, ◌≤◌, ◌<◌, Bool, true, false, ◌&&◌, List, [], ◌∷◌, length, Option, Some, None, refl, sym, ap, subst, ◌∙◌, arith, zero, suc, if◌then◌else◌}
+use Rattle.std.proofs.Common.{◌≡◌, ℕ, ◌+◌, ◌≤◌, Bool, true, false, ◌&&◌, List, [], ◌∷◌, length, Option, Some, None, refl, ap, subst, ◌∙◌, arith, zero, suc, if◌then◌else◌}
 use Rattle.alg_certificate.specs.declared.patterns.Part.{Part}
 use Rattle.alg_certificate.specs.declared.walks.Spot.{Spot}
 use Rattle.alg_certificate.specs.declared.walks.Spot.TheVariants.{Between, Before, Opened, Beginning, Ended}
@@ -7,7 +7,7 @@ use Rattle.alg_certificate.specs.Tokens.{Tok, Blank, Close, Semi, Open, Lit, Var
 use Rattle.alg_certificate.specs.Lexed.{Lexed, tokens}
 use Rattle.alg_certificate.specs.Cutting.{is_empty}
 use Rattle.alg_certificate.specs.Words.{is_sort, is_symbol}
-use Rattle.alg_certificate.specs.Walks.{Standing, first_fit, fits, opens, begun, closed, in_tree, after_tree, at_blank, moved, may_stop_at, go, walks, walks_all, allows}
+use Rattle.alg_certificate.specs.Walks.{Standing, first_fit, opens, begun, closed, in_tree, after_tree, at_blank, moved, may_stop_at, go, walks, walks_all, allows}
 use Rattle.alg_certificate.proofs.Lexing.{token_sound}
 use Rattle.alg_certificate.proofs.AllTokens.{next_some, next_none, shorter}
 

@@ -1,6 +1,5 @@
 -- The grammar of a certificate's lines: for each first word what stands after it.
 use Rattle.std.specs.Prelude.{ℕ, List, [], ◌∷◌, Option, Some, None, codes, if◌then◌else◌}
-use Rattle.alg_certificate.specs.declared.patterns.Slot.{Slot}
 use Rattle.alg_certificate.specs.declared.patterns.Slot.TheVariants as slot
 use Rattle.alg_certificate.specs.declared.patterns.Part.{Part}
 use Rattle.alg_certificate.specs.declared.patterns.Part.TheVariants.{One, Many}

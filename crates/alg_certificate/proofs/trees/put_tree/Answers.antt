@@ -1,4 +1,3 @@
-use Rattle.std.proofs.Common.{◌≡◌}
 use Rattle.alg_certificate.proofs.Pieces.{smaller, still}
 use Rattle.alg_certificate.proofs.trees.put_tree.Goals as goal
 

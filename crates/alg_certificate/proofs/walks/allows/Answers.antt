@@ -1,4 +1,4 @@
-use Rattle.std.proofs.Common.{rules, arith, sym, ◌∙◌}
+use Rattle.std.proofs.Common.{sym, ◌∙◌}
 use Rattle.alg_certificate.proofs.Walking.{at_over, at_fail, at_move}
 use Rattle.alg_certificate.proofs.AllTokens.{shorter}
 use Rattle.alg_certificate.proofs.Lexing.{token_sound}
