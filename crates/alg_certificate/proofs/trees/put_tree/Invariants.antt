@@ -1,0 +1,14 @@
+use Rattle.std.proofs.Common.{◌≡◌, ◌++◌, length}
+use Rattle.alg_expr.specs.Ids.{tree_of}
+use Rattle.alg_certificate.specs.Spelling.{bytes, spell}
+use Rattle.alg_certificate.specs.Pending.{pending, AreInside}
+use Rattle.alg_certificate.proofs.trees.put_tree.Given as goal
+
+abbrev pub invariant-steps : goal.invariant-steps
+invariant-steps l = record {
+  same : l.text.items ++ pending l.arena l.nodes.items ≡ l.fn.text.items ++ bytes (spell (tree_of l.arena l.fn.id));
+  inside : AreInside l.arena l.nodes.items;
+}
+
+abbrev pub decreases-steps : goal.decreases-steps
+decreases-steps l = length (pending l.arena l.nodes.items)

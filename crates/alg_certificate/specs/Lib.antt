@@ -1,0 +1,12 @@
+pub mod Numbers
+pub mod Tokens
+pub mod Seen
+pub mod Lexed
+pub mod Cutting
+pub mod Words
+pub mod Spelling
+pub mod Patterns
+pub mod Walks
+pub mod Reader
+pub mod Pending
+pub mod Items

@@ -1,0 +1,18 @@
+//! Certificates: how their lines are spelled, and how they are read and written.
+#![tactic(auto)]
+
+mod bytes;
+mod numbers;
+mod patterns;
+pub mod reader;
+#[cfg(test)]
+mod tests;
+mod tokens;
+mod trees;
+mod walks;
+mod words;
+mod writer;
+mod writing;
+
+pub use reader::{CertFault, CertLine, CertReader};
+pub use writer::{write_given, write_goal, write_line};
