@@ -2,7 +2,6 @@
 #![tactic(auto)]
 
 mod built_in;
-mod classes;
 mod grants;
 mod meanings;
 mod names;

@@ -16,11 +16,12 @@ ghost use Rattle.alg_names.specs.Found.{found};
 ghost use Rattle.alg_names.specs.InForce.{meaning, instances, has, supports, relates};
 
 use crate::built_in::built_in_names;
-use crate::classes::{any_gives, is_in, own};
+
 use crate::grants::{Granted, Grants};
 use crate::meanings::Meaning;
 use crate::names::Names;
 use alg_expr::{Arena, Items, Memory, Rel, Sort, Stmt, Sym, Text};
+use alg_law::classes::{any_gives, is_in, own};
 use alg_law::{Class, Declared};
 use std::alloc::Global;
 
