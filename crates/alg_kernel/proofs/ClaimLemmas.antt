@@ -11,7 +11,7 @@ use Rattle.alg_law.specs.Derivations.{Derivable}
 use Rattle.alg_law.specs.NoFalseLaw.{derivable-true}
 use Rattle.alg_proof.specs.Steps.{Step}
 use Rattle.alg_proof.specs.Valid.{verdict}
-use Rattle.alg_proof.specs.Admissible.{IsTheory, Follows}
+use Rattle.alg_proof.specs.Admissible.{IsTheory}
 use Rattle.alg_kernel.specs.declared.answers.Checked.{Checked}
 use Rattle.alg_kernel.specs.declared.answers.Refusal.{Refusal}
 use Rattle.alg_kernel.specs.declared.grounds.Grounds.{Grounds}
