@@ -10,3 +10,4 @@ pub mod ValueLemmas
 pub mod KernelLemmas
 pub mod InstanceLemmas
 pub mod LetterLemmas
+pub mod ClaimLemmas

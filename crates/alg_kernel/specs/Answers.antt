@@ -11,14 +11,13 @@ use Rattle.alg_law.specs.declared.marks.Mark.{Mark}
 use Rattle.alg_law.specs.declared.marks.Mark.TheVariants.{Good, NoInstance, BadSort, BadName}
 use Rattle.alg_proof.specs.Causes.{Concludes}
 use Rattle.alg_proof.specs.Valid.{Verdict, Accepted, BadAt, EndsWrong}
-use Rattle.alg_kernel.specs.declared.answers.Checked.{Checked}
 use Rattle.alg_kernel.specs.declared.answers.Fault.{Fault}
 use Rattle.alg_kernel.specs.declared.answers.Fault.TheVariants as fault
 use Rattle.alg_kernel.specs.declared.answers.Refusal.{Refusal}
 use Rattle.alg_kernel.specs.declared.answers.Refusal.TheVariants as refusal
 
 -- the answer is the verdict; want of memory says nothing
-abbrev pub GivesVerdict : Result Checked Refusal → Verdict → Type 0
+abbrev pub GivesVerdict : {T : Type 0} → Result T Refusal → Verdict → Type 0
 GivesVerdict (Ok c) v = v ≡ Accepted
 GivesVerdict (Err (refusal.Bad n c)) v = v ≡ BadAt n c
 GivesVerdict (Err refusal.WrongEnd) v = v ≡ EndsWrong

@@ -1,5 +1,7 @@
 pub mod Answers
+pub mod Claims
 pub mod Filling
+pub mod Lending
 pub mod Progress
 pub mod Sides
 pub mod State

@@ -11,6 +11,7 @@ ghost use Rattle.alg_proof.specs.Steps.{Theory, conclude, conclude_named, step_m
 ghost use Rattle.alg_proof.specs.Valid.{verdict, verdict_from};
 ghost use Rattle.alg_proof.specs.Admissible.{AllFine, IsTheory, Follows};
 ghost use Rattle.alg_kernel.specs.Answers.{IsFed, GivesVerdict};
+ghost use Rattle.alg_kernel.specs.Claims.{HoldsWithoutGiven};
 ghost use Rattle.alg_kernel.specs.Progress.{outcome};
 ghost use Rattle.alg_kernel.specs.State.{theory_of, progress_of, IsGivenIn, IsSound, IsFresh, Answers, AnswersAll};
 ghost use Rattle.alg_law.specs.Derivations.{Derivable};
@@ -119,6 +120,7 @@ impl<'a> Kernel<'a> {
         requires goal_in { IsStatementIn arena.now goal }
         ensures verdict { GivesVerdict result (outcome (progress_of arena.now self.entry) (statement_of arena.now goal)) }
         ensures derivable { OnOk result (Follows (theory_of arena.now self.entry.grounds) (statement_of arena.now goal)) }
+        ensures holds { OnOk result (HoldsWithoutGiven self.entry.grounds.base.now (option_map (statement_of arena.now) self.entry.grounds.given) (statement_of arena.now goal)) }
         ensures goal { IfOk result (λ c. c.goal ≡ goal) }
     {
         self.end(arena, goal)
@@ -183,6 +185,7 @@ pub fn accept(
     ensures keeps { Extends arena.old arena.new }
     ensures verdict { GivesVerdict result (verdict (record { declarations = base.now; lemmas = rows_of lemmas.now; given = option_map (statement_of arena.old) given }) (steps_of arena.old lines.now) (statement_of arena.old goal)) }
     ensures derivable { OnOk result (Derivable base.now (option_map (statement_of arena.old) given) (statement_of arena.old goal)) }
+    ensures holds { OnOk result (HoldsWithoutGiven base.now (option_map (statement_of arena.old) given) (statement_of arena.old goal)) }
     ensures goal { IfOk result (λ c. c.goal ≡ goal) }
 {
     match Kernel::new(alloc, lemmas, base, given) {

@@ -12,9 +12,11 @@ mod instances;
 mod judging;
 pub mod kernel;
 mod letters;
+pub mod proved;
 mod relations;
 mod rules;
 
 pub use alg_terms::BadCause;
 pub use answers::{Checked, Refusal};
 pub use kernel::{Kernel, accept};
+pub use proved::{Proved, ProvedStmt};
