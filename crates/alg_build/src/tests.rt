@@ -7,7 +7,11 @@ use std::rc::Rc;
 #[test]
 fn a_sum_of_literals(rt: HostRuntime) -> Result<(), Memory> {
     let alloc = rt.alloc();
-    let mut cx = Builder::new(alloc, Base::new(alloc)?, Rc::new(alloc, Lemmas::new(alloc)?)?)?;
+    let mut cx = Builder::new(
+        alloc,
+        Base::new(alloc)?,
+        Rc::new(alloc, Lemmas::new(alloc)?)?,
+    )?;
     let line = cx.lit_add(Sort::Nat, 2, 3)?;
     assert_eq!(rt; line, 1);
     assert_eq!(rt; cx.into_parts().lines.len(), 1);
@@ -19,7 +23,11 @@ fn a_statement_is_copied(rt: HostRuntime) -> Result<(), Memory> {
     let alloc = rt.alloc();
     let mut from = Arena::new(alloc)?;
     let two = from.lit(Sort::Nat, 2)?;
-    let mut cx = Builder::new(alloc, Base::new(alloc)?, Rc::new(alloc, Lemmas::new(alloc)?)?)?;
+    let mut cx = Builder::new(
+        alloc,
+        Base::new(alloc)?,
+        Rc::new(alloc, Lemmas::new(alloc)?)?,
+    )?;
     let stmt = Stmt {
         rel: Rel::Le,
         sort: Sort::Nat,

@@ -54,11 +54,7 @@ fn check(alloc: Global, mut cx: Builder, goal: Stmt, line: usize) -> Result<Chec
 }
 
 /// Proves a goal and has the kernel check the proof, or finds why the goal fails.
-pub(crate) fn prove_goal(
-    alloc: Global,
-    lemmas: &Rc<Lemmas>,
-    goal: &Goal,
-) -> Result<Entry, Memory>
+pub(crate) fn prove_goal(alloc: Global, lemmas: &Rc<Lemmas>, goal: &Goal) -> Result<Entry, Memory>
     ensures { IfOk result (λ entry. verdict_of entry ≡ verdict_of_goal goal.now) }
 {
     let base = Base::new(alloc)?;

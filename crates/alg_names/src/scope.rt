@@ -16,7 +16,6 @@ ghost use Rattle.alg_names.specs.Found.{found};
 ghost use Rattle.alg_names.specs.InForce.{meaning, instances, has, supports, relates};
 
 use crate::built_in::built_in_names;
-
 use crate::grants::{Granted, Grants};
 use crate::meanings::Meaning;
 use crate::names::Names;
