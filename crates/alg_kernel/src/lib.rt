@@ -14,6 +14,8 @@ pub mod kernel;
 mod letters;
 mod relations;
 mod rules;
+#[cfg(test)]
+mod tests;
 
 pub use alg_terms::BadCause;
 pub use answers::{Checked, Refusal};
