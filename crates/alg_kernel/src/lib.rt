@@ -15,6 +15,8 @@ mod letters;
 pub mod proved;
 mod relations;
 mod rules;
+#[cfg(test)]
+mod tests;
 
 pub use alg_terms::BadCause;
 pub use answers::{Checked, Refusal};
