@@ -134,6 +134,17 @@ use Rattle.checked_lines.proofs.chain.Given as goal
 abbrev pub invariant-loop-k : goal.invariant-loop-k
 invariant-loop-k l = (ts : List Tree) → All (IsLineIn ts) l.lines.items
 ANTT
+cat > "$program/proofs/chain/Answers.antt" <<'ANTT'
+use Rattle.std.proofs.Common.{List, All, subst, sym}
+use Rattle.std.proofs.lemmas.List.Elements.{All-push}
+use Rattle.alg_proof.specs.Lines.{IsLineIn}
+use Rattle.checked_lines.proofs.chain.Goals as goal
+
+pub loop-k-preserved : goal.loop-k-preserved
+loop-k-preserved c = λ ts.
+    subst (λ ls. All (IsLineIn ts) ls) (sym c.in_ok-push-in-loop-k.ensures.items)
+    (All-push (IsLineIn ts) c.loop-k.lines.items c.line.result (c.loop-k.invariant ts) (c.line.ensures ts))
+ANTT
 cat > "$program/proofs/negations/Invariants.antt" <<'ANTT'
 use Rattle.alg_expr.specs.Ids.{IsIn}
 use Rattle.checked_lines.proofs.negations.Given as goal
