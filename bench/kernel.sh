@@ -142,7 +142,7 @@ use Rattle.checked_lines.proofs.chain.Goals as goal
 
 pub loop-k-preserved : goal.loop-k-preserved
 loop-k-preserved c = λ ts.
-    subst (λ ls. All (IsLineIn ts) ls) (sym c.in_ok-push-in-loop-k.ensures.items)
+    subst (λ ls. All (IsLineIn ts) ls) (sym c.in_ok-push-4.ensures.items)
     (All-push (IsLineIn ts) c.loop-k.lines.items c.line.result (c.loop-k.invariant ts) (c.line.ensures ts))
 ANTT
 cat > "$program/proofs/negations/Invariants.antt" <<'ANTT'
