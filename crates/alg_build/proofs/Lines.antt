@@ -1,5 +1,5 @@
 -- What the lines of a book conclude, as it grows: for those who call a builder.
-use Rattle.std.proofs.Common.{◌≡◌, ℕ, zero, suc, ◌+◌, ◌<◌, ◌≤◌, List, [], ◌∷◌, ◌++◌, length, take, refl, ap, sym, ◌∙◌, arith, Ok, Err, Some, append-nil, append_assoc, length-append}
+use Rattle.std.proofs.Common.{◌≡◌, ℕ, zero, suc, ◌≤◌, List, [], ◌∷◌, ◌++◌, length, take, refl, ap, sym, ◌∙◌, arith, Ok, Err, Some, append-nil, append_assoc, length-append}
 use Rattle.std.specs.Prelude.{Result, IfOk, OnErr, slice_get}
 use Rattle.std.proofs.lemmas.Grind.{common_steps}
 use Rattle.alg_terms.specs.Tree.{Tree, Statement, equal}
@@ -8,7 +8,7 @@ use Rattle.alg_expr.specs.declared.memory.Memory.{Memory}
 use Rattle.alg_expr.specs.Arena.{Extends-self, Extends-then}
 use Rattle.alg_proof.specs.Steps.{Step}
 use Rattle.alg_proof.specs.Causes.{line_at}
-use Rattle.alg_build.specs.Book.{Book, Grows, KeepsLines, Makes, Adds, Proves, IsEquation, left_at, right_at, fact, stated}
+use Rattle.alg_build.specs.Book.{Book, Grows, KeepsLines, LeavesLines, Makes, Adds, Concludes, Proves, IsEquation, left_at, right_at, fact, stated}
 use Rattle.alg_build.proofs.Concluding.{line_at-within}
 
 slice_get-append : {A : Type 0} (xs ys : List A) (k : ℕ) (x : A) → slice_get xs k ≡ Some x → slice_get (xs ++ ys) k ≡ Some x
@@ -16,7 +16,7 @@ slice_get-append [] ys k x e = cc
 slice_get-append (z ∷ zs) ys zero x e = e
 slice_get-append (z ∷ zs) ys (suc k) x e = slice_get-append zs ys k x e
 
-line_at-append : {A : Type 0} (xs ys : List A) (i : ℕ) (x : A) → line_at xs i ≡ Some x → line_at (xs ++ ys) i ≡ Some x
+pub line_at-append : {A : Type 0} (xs ys : List A) (i : ℕ) (x : A) → line_at xs i ≡ Some x → line_at (xs ++ ys) i ≡ Some x
 line_at-append xs ys zero x e = cc
 line_at-append xs ys (suc k) x e = slice_get-append xs ys k x e
 
@@ -27,7 +27,7 @@ slice_get-seam (y ∷ ys) x = slice_get-seam ys x
 -- growth
 
 pub grows-self : (a : Book) → Grows a a
-grows-self a = record { theory = refl; trees = Extends-self a.trees; steps = ([], sym (append-nil _)); done = ([], sym (append-nil _)) }
+grows-self a = record { theory = refl; trees = Extends-self a.trees; steps = ([], sym (append-nil _)); done = ([], sym (append-nil _)); atoms = ([], sym (append-nil _)) }
 
 pub grows-same : (a b : Book) → b ≡ a → Grows a b
 grows-same a b e = rw e (grows-self a)
@@ -38,27 +38,29 @@ grows-then a b c p q = record {
   trees = Extends-then a.trees b.trees c.trees p.trees q.trees;
   steps = (p.steps.0 ++ q.steps.0, q.steps.1 ∙ ap (λ l. l ++ q.steps.0) p.steps.1 ∙ append_assoc a.steps p.steps.0 q.steps.0);
   done = (p.done.0 ++ q.done.0, q.done.1 ∙ ap (λ l. l ++ q.done.0) p.done.1 ∙ append_assoc a.done p.done.0 q.done.0);
+  atoms = (p.atoms.0 ++ q.atoms.0, q.atoms.1 ∙ ap (λ l. l ++ q.atoms.0) p.atoms.1 ∙ append_assoc a.atoms p.atoms.0 q.atoms.0);
 }
 
 pub keeps-grows : (a b : Book) → KeepsLines a b → Grows a b
-keeps-grows a b k = record { theory = k.theory; trees = k.trees; steps = ([], k.steps ∙ sym (append-nil _)); done = ([], k.done ∙ sym (append-nil _)) }
+keeps-grows a b k = record { theory = k.theory; trees = k.trees; steps = ([], k.steps ∙ sym (append-nil _)); done = ([], k.done ∙ sym (append-nil _)); atoms = ([], k.atoms ∙ sym (append-nil _)) }
 
 pub makes-grows : (a b : Book) (e : ExprId) (t : Tree) → Makes a b e t → Grows a b
 makes-grows a b e t m = keeps-grows a b m.keeps
 
 pub adds-grows : (a b : Book) (n : ℕ) (l : Step) (s : Statement) → Adds a b n l s → Grows a b
-adds-grows a b n l s p = record { theory = p.theory; trees = p.trees; steps = (l ∷ [], p.steps); done = (s ∷ [], p.done) }
+adds-grows a b n l s p = record { theory = p.theory; trees = p.trees; steps = (l ∷ [], p.steps); done = (s ∷ [], p.done); atoms = ([], p.atoms ∙ sym (append-nil _)) }
 
 take-front : {A : Type 0} (xs ys : List A) → take (length xs) (xs ++ ys) ≡ xs
 take-front xs ys = grind (arith, common_steps)
 
 -- after going back to a mark the lines are as they were there
-pub keeps : (a b : Book) (n : ℕ) → Grows a b → n ≡ length a.steps → length a.done ≡ length a.steps → KeepsLines a (record b { steps = take n b.steps; done = take n b.done })
+pub keeps : (a b : Book) (n : ℕ) → Grows a b → n ≡ length a.steps → length a.done ≡ length a.steps → LeavesLines a (record b { steps = take n b.steps; done = take n b.done })
 keeps a b n g e h = record {
   theory = g.theory;
   trees = g.trees;
   steps = rw (e, g.steps.1) (take-front a.steps g.steps.0);
   done = rw (e, g.done.1, ← h) (take-front a.done g.done.0);
+  atoms = g.atoms;
 }
 
 -- conclusions
@@ -70,6 +72,11 @@ pub adds-proves : (a b : Book) (n : ℕ) (l : Step) (x y : Tree) → Adds a b n 
 adds-proves a b n l x y p =
     let k : n ≡ suc (length a.done) = omega (arith, p.number, ap length p.done, length-append a.done (equal x y ∷ [])) in
     record { line = rw (p.done, k) (slice_get-seam a.done (equal x y)) }
+
+pub adds-concludes : (a b : Book) (n : ℕ) (l : Step) (s : Statement) → Adds a b n l s → Concludes b n s
+adds-concludes a b n l s p =
+    let k : n ≡ suc (length a.done) = omega (arith, p.number, ap length p.done, length-append a.done (s ∷ [])) in
+    record { line = rw (p.done, k) (slice_get-seam a.done s) }
 
 pub proves-fact : (b : Book) (i : ℕ) (x y : Tree) → Proves b i x y → fact b i ≡ equal x y
 unfolding fact

@@ -1,11 +1,11 @@
 -- What a builder holds, and what its calls do to that.
-use Rattle.std.specs.Prelude.{◌≡◌, ℕ, zero, suc, List, [], ◌∷◌, ◌++◌, length, map, Option, Some, None, IsSome, Ok}
+use Rattle.std.specs.Prelude.{◌≡◌, ℕ, List, [], ◌∷◌, ◌++◌, length, map, Option, Some, None, IsSome, Ok}
 use Rattle.alg_terms.specs.declared.sorts.Sort.TheVariants.{Nat}
 use Rattle.alg_terms.specs.Tree.{Tree, Lit, Trees, of_list, Statement, equal}
 use Rattle.alg_expr.specs.declared.ids.ExprId.{ExprId}
 use Rattle.alg_expr.specs.Ids.{tree_of, IsIn}
 use Rattle.alg_expr.specs.Arena.{Extends}
-use Rattle.alg_proof.specs.Steps.{Theory, Step, conclude}
+use Rattle.alg_proof.specs.Steps.{Theory, Step, Rest, conclude}
 use Rattle.alg_proof.specs.Causes.{line_at}
 
 pub record Book : Type 0 where
@@ -17,6 +17,8 @@ pub record Book : Type 0 where
   pub steps : List Step
   -- what the lines conclude
   pub done : List Statement
+  -- the trees that have numbers, in the order of these
+  pub atoms : List Tree
 
 abbrev pub nothing : Tree
 nothing = Lit Nat 0
@@ -38,6 +40,10 @@ right_at b i = (fact b i).rhs
 -- line i is there, counted from 1
 abbrev pub IsThere : Book → ℕ → Type 0
 IsThere b i = IsSome (line_at b.done i)
+
+-- line i concludes this
+pub record Concludes (b : Book) (i : ℕ) (s : Statement) : Type 0 where
+  pub line : line_at b.done i ≡ Some s
 
 -- line i concludes that x equals y
 pub record Proves (b : Book) (i : ℕ) (x y : Tree) : Type 0 where
@@ -61,6 +67,7 @@ pub record Grows (a b : Book) : Type 0 where
   pub trees : Extends a.trees b.trees
   pub steps : (more : List Step) × (b.steps ≡ a.steps ++ more)
   pub done : (more : List Statement) × (b.done ≡ a.done ++ more)
+  pub atoms : (more : List Tree) × (b.atoms ≡ a.atoms ++ more)
 
 -- trees may be new, and all else is as it was
 pub record KeepsLines (a b : Book) : Type 0 where
@@ -68,6 +75,15 @@ pub record KeepsLines (a b : Book) : Type 0 where
   pub trees : Extends a.trees b.trees
   pub steps : b.steps ≡ a.steps
   pub done : b.done ≡ a.done
+  pub atoms : b.atoms ≡ a.atoms
+
+-- the lines are as they were; trees and atoms may be new
+pub record LeavesLines (a b : Book) : Type 0 where
+  pub theory : b.theory ≡ a.theory
+  pub trees : Extends a.trees b.trees
+  pub steps : b.steps ≡ a.steps
+  pub done : b.done ≡ a.done
+  pub atoms : (more : List Tree) × (b.atoms ≡ a.atoms ++ more)
 
 -- one good line is new, of this number, with this conclusion; trees may be new
 pub record Adds (a b : Book) (n : ℕ) (l : Step) (s : Statement) : Type 0 where
@@ -77,6 +93,16 @@ pub record Adds (a b : Book) (n : ℕ) (l : Step) (s : Statement) : Type 0 where
   pub done : b.done ≡ a.done ++ s ∷ []
   pub number : n ≡ length b.done
   pub good : conclude a.theory a.done l ≡ Ok s
+  pub atoms : b.atoms ≡ a.atoms
+
+-- the statement is given now, and the new line of this number is the one that concludes it
+pub record Gives (a b : Book) (n : ℕ) (s : Statement) : Type 0 where
+  pub theory : b.theory ≡ record a.theory { given = Some s }
+  pub trees : b.trees ≡ a.trees
+  pub steps : b.steps ≡ a.steps ++ Rest ∷ []
+  pub done : b.done ≡ a.done ++ s ∷ []
+  pub number : n ≡ length b.done
+  pub atoms : b.atoms ≡ a.atoms
 
 -- the id stands for this tree, and the lines are as they were
 pub record Makes (a b : Book) (e : ExprId) (t : Tree) : Type 0 where

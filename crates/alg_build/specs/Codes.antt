@@ -1,7 +1,6 @@
 -- Proof steps, theories and books as values of a model.
-use Rattle.std.specs.Prelude.{◌≡◌, ℕ, zero, suc, refl, ℤ, List, [], ◌∷◌, map, get_or, Option}
+use Rattle.std.specs.Prelude.{◌≡◌, ℕ, zero, suc, refl, ℤ, List, [], ◌∷◌, get_or, Option}
 use Rattle.std.specs.Coded.{Coded, code_by, coded_ℕ, coded_ℤ, coded×, coded_list, coded_option}
-use Rattle.alg_terms.specs.declared.sorts.Sort.{Sort}
 use Rattle.alg_terms.specs.Keys.{sort_key, sort_at, sort_at-sort_key, sym_key, sym_at, sym_at-sym_key, rel_key, rel_at, rel_at-rel_key}
 use Rattle.alg_terms.specs.Tree.{Tree, Statement}
 use Rattle.alg_terms.specs.Code.{tree_code, statement_code}
@@ -123,8 +122,8 @@ theory_code =
 
 abbrev pub book_code : Coded Book
 book_code =
-    code_by (Theory × (List Tree × (List Step × List Statement)))
-    (coded× theory_code (coded× (coded_list tree_code) (coded× (coded_list step_code) (coded_list statement_code))))
-    (λ b. (b.theory, (b.trees, (b.steps, b.done))))
-    (λ p. record { theory = p.0; trees = p.1.0; steps = p.1.1.0; done = p.1.1.1 })
+    code_by (Theory × (List Tree × (List Step × (List Statement × List Tree))))
+    (coded× theory_code (coded× (coded_list tree_code) (coded× (coded_list step_code) (coded× (coded_list statement_code) (coded_list tree_code)))))
+    (λ b. (b.theory, (b.trees, (b.steps, (b.done, b.atoms)))))
+    (λ p. record { theory = p.0; trees = p.1.0; steps = p.1.1.0; done = p.1.1.1.0; atoms = p.1.1.1.1 })
     (λ b. refl)

@@ -1,6 +1,9 @@
 pub mod Book
+pub mod Atoms
 pub mod Good
 pub mod RowCodes
 pub mod Codes
 pub mod Inside
 pub mod Accepting
+pub mod Backs
+pub mod Combos

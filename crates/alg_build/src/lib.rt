@@ -1,13 +1,17 @@
 //! Proof lines under construction: a builder adds good lines alone, so that the kernel accepts what it hands out.
 #![tactic(auto)]
 
+pub mod backs;
 pub mod builder;
+pub mod equations;
 pub mod outcome;
+pub mod rows;
+pub mod trees;
 
 pub use alg_expr::Memory;
 pub use alg_proof::Line;
-pub use builder::{Builder, Parts};
-pub use outcome::{Outcome, TacFault};
+pub use builder::{Builder, Mark, Parts};
+pub use outcome::{Back, Outcome, TacFault};
 
 #[cfg(test)]
 mod tests;

@@ -1,6 +1,6 @@
 ghost use Rattle.std.specs.Prelude.{◌≡◌};
 
-use alg_expr::Memory;
+use alg_expr::{ExprId, Memory, Stmt};
 use thiserror::Error;
 
 /// What a procedure made of its goal.
@@ -8,6 +8,27 @@ use thiserror::Error;
 pub enum Outcome {
     /// The goal is proved by the line of this number.
     Closed { line: usize },
+    /// This goal is left, and leads back to the other.
+    Left { goal: Stmt, back: Back },
+}
+
+/// The lines by which a new goal with the sides l' and r' leads back to the old one with l and r.
+#[derive(Clone, Copy, Debug, Drop)]
+pub enum Back {
+    /// They conclude `l = l'` and `r = r'`.
+    Rewrite {
+        left: usize,
+        right: usize,
+    },
+    /// For an equation, and the tree m: they conclude `l * m = l'`, `r * m = r'`, `l * m * m⁻¹ = l` and
+    /// `r * m * m⁻¹ = r`.
+    Scale {
+        by: ExprId,
+        left: usize,
+        right: usize,
+        back_left: usize,
+        back_right: usize,
+    },
 }
 
 /// Why a procedure made nothing of its goal. The lines are then as they were.

@@ -2,7 +2,13 @@ use crate::{Builder, Memory};
 use alg_expr::{Arena, Rel, Sort, Stmt};
 use alg_law::Base;
 use alg_proof::Lemmas;
+use std::alloc::Global;
 use std::rc::Rc;
+
+fn empty(alloc: Global) -> Result<Builder, Memory> {
+    let lemmas = Rc::new(alloc, Lemmas::new(alloc)?)?;
+    Builder::new(alloc, Base::new(alloc)?, lemmas)
+}
 
 #[test]
 fn a_sum_of_literals(rt: HostRuntime) -> Result<(), Memory> {
@@ -19,15 +25,20 @@ fn a_sum_of_literals(rt: HostRuntime) -> Result<(), Memory> {
 }
 
 #[test]
+fn a_tree_has_a_number(rt: HostRuntime) -> Result<(), Memory> {
+    let mut cx = empty(rt.alloc())?;
+    let two = cx.lit(Sort::Nat, 2)?;
+    assert_eq!(rt; cx.atom(two)?, 0);
+    assert_eq!(rt; cx.atoms().len(), 1);
+    Ok(())
+}
+
+#[test]
 fn a_statement_is_copied(rt: HostRuntime) -> Result<(), Memory> {
     let alloc = rt.alloc();
     let mut from = Arena::new(alloc)?;
     let two = from.lit(Sort::Nat, 2)?;
-    let mut cx = Builder::new(
-        alloc,
-        Base::new(alloc)?,
-        Rc::new(alloc, Lemmas::new(alloc)?)?,
-    )?;
+    let mut cx = empty(alloc)?;
     let stmt = Stmt {
         rel: Rel::Le,
         sort: Sort::Nat,

@@ -1,28 +1,25 @@
 -- How a line is cut off.
 use Rattle.std.proofs.Common.{◌≡◌, ◌≢◌, ℕ, ◌+◌, List, [], ◌∷◌, ◌++◌, length, take, refl, sym, ap, ◌∙◌, arith, append_assoc, append-nil, take_at, length-append, ne_eqb}
 use Rattle.alg_certificate.specs.Cutting.{cut}
-
-abbrev pub NoFeed : List ℕ → Type 0
-NoFeed [] = Unit {0}
-NoFeed (c ∷ cs) = (c ≢ 10) × NoFeed cs
+use Rattle.alg_certificate.specs.Grammar.{HasNoFeed}
 
 pub record Passed (all : List ℕ) (count : ℕ) (left : List ℕ) : Type 0 where
   pub line : List ℕ
   pub whole : all ≡ line ++ left
   pub size : count ≡ length line
-  pub plain : NoFeed line
+  pub plain : HasNoFeed line
 
-pub cut_feed : (line rest : List ℕ) → NoFeed line → cut (line ++ 10 ∷ rest) ≡ (line ∷ (cut rest).0, (cut rest).1)
+pub cut_feed : (line rest : List ℕ) → HasNoFeed line → cut (line ++ 10 ∷ rest) ≡ (line ∷ (cut rest).0, (cut rest).1)
 unfolding cut
 cut_feed [] rest p = refl
 cut_feed (c ∷ cs) rest p = rw (ne_eqb c 10 p.0, cut_feed cs rest p.1) refl
 
-pub cut_none : (text : List ℕ) → NoFeed text → cut text ≡ ([], text)
+pub cut_none : (text : List ℕ) → HasNoFeed text → cut text ≡ ([], text)
 unfolding cut
 cut_none [] p = refl
 cut_none (c ∷ cs) p = rw (ne_eqb c 10 p.0, cut_none cs p.1) refl
 
-plain_push : (cs : List ℕ) (c : ℕ) → NoFeed cs → c ≢ 10 → NoFeed (cs ++ c ∷ [])
+plain_push : (cs : List ℕ) (c : ℕ) → HasNoFeed cs → c ≢ 10 → HasNoFeed (cs ++ c ∷ [])
 plain_push [] c p d = (d, tt)
 plain_push (x ∷ xs) c p d = (p.0, plain_push xs c p.1 d)
 

@@ -1,12 +1,10 @@
-pub mod Decimals
 pub mod Turns
-pub mod Lexing
 pub mod Cutting
-pub mod OneList
-pub mod AllTokens
 pub mod Walking
 pub mod Steps
 pub mod Pieces
-pub mod WordLaws
 pub mod ItemLaws
 pub mod LineLaws
+pub mod Complete
+pub mod Feeds
+pub mod FirstWords

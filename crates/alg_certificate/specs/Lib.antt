@@ -1,4 +1,5 @@
 pub mod Numbers
+pub mod NumberLaws
 pub mod Tokens
 pub mod Seen
 pub mod Lexed
@@ -10,3 +11,11 @@ pub mod Walks
 pub mod Reader
 pub mod Pending
 pub mod Items
+pub mod Grammar
+pub mod LexingLaws
+pub mod ApartLaws
+pub mod TokenLaws
+pub mod WordLaws
+pub mod Wordlike
+pub mod Fitting
+pub mod Walkable

@@ -11,8 +11,8 @@ pub(crate) fn split(bytes: &[u8]) -> Option<(u8, &[u8])>
     }
 }
 
-// What follows a front.
-pub(crate) fn after<'a>(front: &[u8], bytes: &'a [u8]) -> Option<&'a [u8]>
+/// What follows a front.
+pub fn after<'a>(front: &[u8], bytes: &'a [u8]) -> Option<&'a [u8]>
     ensures { option_map {U = List ℕ} (λ x. x.now) result ≡ after front.now bytes.now }
 {
     let mut wanted = front;

@@ -1,16 +1,16 @@
 //! Certificates: how their lines are spelled, and how they are read and written.
 #![tactic(auto)]
 
-mod bytes;
-mod numbers;
+pub mod bytes;
+pub mod numbers;
 mod patterns;
 pub mod reader;
 #[cfg(test)]
 mod tests;
-mod tokens;
+pub mod tokens;
 mod trees;
 mod walks;
-mod words;
+pub mod words;
 mod writer;
 mod writing;
 

@@ -55,8 +55,8 @@ fn begins_digit(bytes: &[u8]) -> bool
     }
 }
 
-// Reads a number without leading zeros, and what follows it.
-pub(crate) fn read_number(bytes: &[u8]) -> Option<(u128, &[u8])>
+/// Reads a number without leading zeros, and what follows it.
+pub fn read_number(bytes: &[u8]) -> Option<(u128, &[u8])>
     ensures { option_map {U = ℕ × List ℕ} (λ x. (x.0, x.1.now)) result ≡ read_number bytes.now }
 {
     let (byte, rest) = split(bytes)?;

@@ -4,6 +4,7 @@ ghost use Rattle.alg_certificate.specs.Cutting.{is_empty};
 ghost use Rattle.alg_certificate.specs.Tokens.{first_word};
 ghost use Rattle.alg_certificate.specs.Reader.{TextLine, of_number, of_pattern, of_head, of_word, kind_of, outside_line, proving_line, begun_line, line_in, may_end, seen_line, coming_of, Comes};
 ghost use Rattle.alg_certificate.specs.Items.{Spelled};
+ghost use Rattle.alg_certificate.specs.Grammar.{AreLinesOf};
 ghost use Rattle.alg_certificate.specs.Patterns.{given_pattern, pattern_of};
 ghost use Rattle.alg_certificate.specs.declared.reader.State.{State};
 
@@ -182,9 +183,11 @@ impl<'a> Model for CertReader<'a> {
 }
 
 impl<'a> CertReader<'a> {
-    /// Reads the lines of these bytes, from the beginning.
+    /// Reads the lines of these bytes, from the beginning. What comes are the lines of the grammar, one behind another,
+    /// and a fault stands exactly where the bytes begin no line that the grammar allows there.
     pub fn new(bytes: &'a [u8]) -> CertReader<'a>
-        ensures { result ≡ coming_of bytes.now }
+        ensures coming { result ≡ coming_of bytes.now }
+        ensures grammar { AreLinesOf bytes.now result }
     {
         let total = bytes.len();
         match after(b"algebra-cert 1\n", bytes) {

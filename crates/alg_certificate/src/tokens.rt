@@ -5,9 +5,9 @@ ghost use Rattle.alg_certificate.specs.Seen.{read_seen};
 use crate::bytes::split;
 use crate::numbers::read_number;
 
-// A token of a line.
+/// A token of a line.
 #[derive(Clone, Copy)]
-pub(crate) enum Token<'a> {
+pub enum Token<'a> {
     Blank,
     Close,
     Semi,
@@ -39,8 +39,8 @@ fn word_length(bytes: &[u8]) -> usize
     count
 }
 
-// The word at the front, and what follows it.
-pub(crate) fn cut_word(bytes: &[u8]) -> Option<(&[u8], &[u8])>
+/// The word at the front, and what follows it.
+pub fn cut_word(bytes: &[u8]) -> Option<(&[u8], &[u8])>
     ensures { option_map {U = List ℕ × List ℕ} (λ x. (x.0.now, x.1.now)) result ≡ (if begins_word bytes.now then Some (front bytes.now, behind bytes.now) else None) }
 {
     let count = word_length(bytes);
@@ -83,9 +83,9 @@ fn read_variable(bytes: &[u8]) -> Option<(Token, &[u8])>
     Some((Token::Var(value), rest))
 }
 
-// The first token, and what follows it.
+/// The first token, and what follows it.
 #[tactic(auto, unfolding(crate::specs::Tokens::read_token))]
-pub(crate) fn next_token(bytes: &[u8]) -> Option<(Token, &[u8])>
+pub fn next_token(bytes: &[u8]) -> Option<(Token, &[u8])>
     ensures { read_seen result ≡ read_token bytes.now }
 {
     let (byte, rest) = split(bytes)?;

@@ -6,8 +6,8 @@ ghost use Rattle.alg_certificate.specs.Words.{is_word_of, is_number, is_positive
 use crate::bytes::{after, split};
 use crate::numbers::read_number;
 
-// Whether the word is this one.
-pub(crate) fn is_word_of(wanted: &[u8], word: &[u8]) -> bool
+/// Whether the word is this one.
+pub fn is_word_of(wanted: &[u8], word: &[u8]) -> bool
     ensures { result ≡ is_word_of wanted.now word.now }
 {
     match after(wanted, word) {
@@ -152,8 +152,8 @@ fn are_name_bytes(bytes: &[u8]) -> bool
     true
 }
 
-// Whether the word may name a law or lemma.
-pub(crate) fn is_name(word: &[u8]) -> bool
+/// Whether the word may name a law or lemma.
+pub fn is_name(word: &[u8]) -> bool
     ensures { result ≡ is_name word.now }
 {
     match split(word) {

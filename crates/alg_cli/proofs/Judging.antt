@@ -1,20 +1,57 @@
--- The verdict on a goal, from what norm_num answers.
-use Rattle.std.proofs.Common.{◌≡◌, Ok, ap, sym, ◌∙◌}
-use Rattle.alg_expr.specs.declared.ids.Stmt.{Stmt}
-use Rattle.alg_expr.specs.Ids.{statement_of}
-use Rattle.alg_build.specs.Book.{Book}
-use Rattle.alg_build.specs.declared.outcome.Outcome.{Outcome}
-use Rattle.alg_build.specs.declared.outcome.Outcome.TheVariants as outcome
-use Rattle.alg_goal_line.specs.declared.sums.Goal.{Goal}
-use Rattle.alg_normnum.specs.Values.{Answer, answer_to}
-use Rattle.alg_normnum.specs.Values as answer
-use Rattle.alg_normnum.specs.Goals.{Answers}
-use Rattle.alg_cli.specs.Trees.{States}
-use Rattle.alg_cli.specs.Verdict.{verdict_of_answer, verdict_of_goal}
+-- What the procedures of a script answer.
+use Rattle.std.proofs.Common.{◌≡◌, List, ◌∷◌, refl, ap, sym, ◌∙◌, subst, Some, None, Ok, Err, Bool, true, false}
+use Rattle.std.specs.Prelude.{Result, IfOk, IsTrue, ◌↔◌}
+use Rattle.alg_terms.specs.Tree.{Statement}
+use Rattle.alg_cli.specs.declared.proofs.Proof.{Proof}
+use Rattle.alg_normnum.specs.Values.{answer_to}
+use Rattle.alg_parse.specs.declared.procedures.Proc.{Proc}
+use Rattle.alg_parse.specs.declared.procedures.Proc.TheVariants.{NormNum, Ring, Ring1, RingNf, Abel, Abel1, AbelNf, Group, Positivity, FieldSimp, LinearCombination}
+use Rattle.alg_cli.specs.Seen.{call_seen, calls_seen}
+use Rattle.alg_cli.specs.declared.entries.FailCause.{FailCause}
+use Rattle.alg_cli.specs.declared.entries.FailCause.TheVariants.{NotBuilt}
+use Rattle.alg_cli.specs.declared.entries.Fate.{Fate}
+use Rattle.alg_cli.specs.Entry.{cause_in, verdict_in}
+use Rattle.alg_cli.specs.Verdict.{Verdict, cause_of_answer, cause_of_call, when_closed, verdict_of}
 
-pub closed_answer : (o : Outcome) (a : Answer) → Answers (Ok o) a → a ≡ answer.Closed
-closed_answer (outcome.Closed line) a h = h
+pub of_norm_num : (p : Proc) (s : Statement) → p ≡ NormNum → cause_of_call (call_seen p) s ≡ cause_of_answer (answer_to s)
+unfolding cause_of_call
+of_norm_num p s e = rw e refl
 
-pub answered : (goal : Goal) (b : Book) (s : Stmt) (a : Answer) → States b s goal → answer_to (statement_of b.trees s) ≡ a → verdict_of_answer a ≡ verdict_of_goal goal
-unfolding verdict_of_goal
-answered goal b s a states e = sym (ap verdict_of_answer (ap answer_to (sym states.statement) ∙ e))
+pub of_another : (p : Proc) (s : Statement) → (p ≡ NormNum → ⊥) → Some NotBuilt ≡ cause_of_call (call_seen p) s
+unfolding cause_of_call
+of_another NormNum s other = absurd (other refl)
+of_another Ring s other = refl
+of_another Ring1 s other = refl
+of_another RingNf s other = refl
+of_another Abel s other = refl
+of_another Abel1 s other = refl
+of_another AbelNf s other = refl
+of_another Group s other = refl
+of_another Positivity s other = refl
+of_another FieldSimp s other = refl
+of_another (LinearCombination c) s other = refl
+
+-- what a test tells
+pub holds : (b : Bool) (P : Type 0) → b ≡ true → (IsTrue b ↔ P) → P
+holds b P e h = h.0 e
+
+pub fails : (b : Bool) (P : Type 0) → b ≡ false → (IsTrue b ↔ P) → P → ⊥
+fails b P e h p =
+    let yes : b ≡ true = h.1 p in
+    cc
+
+pub called : {E : Type 0} (p : Proc) (s : Statement) (r : Result (Result Proof FailCause) E) → p ≡ NormNum → IfOk r (λ x. cause_in x ≡ cause_of_answer (answer_to s))
+    → IfOk r (λ x. cause_in x ≡ cause_of_call (call_seen p) s)
+called p s (Ok x) e h = h ∙ sym (of_norm_num p s e)
+called p s (Err f) e h = h
+
+-- the first procedure closed the goal, and this is what the others make of it
+pub closed_then : (s : Statement) (script : List Proc) (first : Proc) (more : List Proc) (r : Result Proof FailCause) (proof : Proof) (v : Verdict) → script ≡ first ∷ more → r ≡ Ok proof
+    → cause_in r ≡ cause_of_call (call_seen first) s → v ≡ when_closed 2 (calls_seen more) → v ≡ verdict_of s (calls_seen script)
+closed_then s script first more r proof v is ok closed h =
+    let none : cause_of_call (call_seen first) s ≡ None = sym closed ∙ ap cause_in ok in
+    rw (is, none) h
+
+pub of_statement : {E : Type 0} (script : List Proc) (s t : Statement) (r : Result Fate E) → s ≡ t → IfOk r (λ f. verdict_in f ≡ verdict_of s (calls_seen script))
+    → IfOk r (λ f. verdict_in f ≡ verdict_of t (calls_seen script))
+of_statement script s t r e h = subst (λ u. IfOk r (λ f. verdict_in f ≡ verdict_of u (calls_seen script))) e h

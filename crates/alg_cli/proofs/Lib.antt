@@ -1,7 +1,9 @@
 pub mod Doing
 pub mod Reaching
-pub mod Reading
 pub mod Working
 pub mod Telling
-pub mod Making
+pub mod Certifying
 pub mod Judging
+pub mod Seeing
+pub mod Answering
+pub mod Writing

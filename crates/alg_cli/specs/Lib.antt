@@ -1,8 +1,10 @@
-pub mod Job
-pub mod Trees
 pub mod Verdict
 pub mod Report
-pub mod Lines
-pub mod Entry
+pub mod Certificate
+pub mod Effects
 pub mod Plan
+pub mod Entry
+pub mod Seen
+pub mod Work
+pub mod Complaining
 pub mod Run

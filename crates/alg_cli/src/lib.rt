@@ -2,12 +2,10 @@
 #![tactic(auto)]
 
 mod entries;
-mod lines;
 mod program;
+mod proofs;
 mod proving;
 mod status;
-mod trees;
-mod words;
 mod work;
 
 pub use alg_host::{Failed, Host, LoadFault, MemoryHost, RealHost};

@@ -9,7 +9,7 @@ pub enum Status {
     Usage,
     /// A call on the host failed.
     HostFailed,
-    /// The file is longer than what is read.
+    /// The file is longer than what is read, or isn't UTF-8.
     BadInput,
     /// Memory ran out.
     Memory,
@@ -29,6 +29,49 @@ impl Status {
             Status::HostFailed => 3,
             Status::Memory => 4,
             Status::BadInput => 5,
+        }
+    }
+}
+
+/// How a run ended, with the two causes of bad input apart.
+#[derive(Clone, Copy, Debug, PartialEq, Eq)]
+pub(crate) enum Ending {
+    Done { all_closed: bool },
+    Usage,
+    HostFailed,
+    TooLong,
+    NotText,
+    Memory,
+}
+
+impl Ending {
+    ghost use Rattle.alg_cli.specs.Run.{status_of, complaint_of};
+
+    pub(crate) fn status(self) -> Status
+        ensures { result ≡ status_of self }
+    {
+        match self {
+            Ending::Done { all_closed } => Status::Done { all_closed },
+            Ending::Usage => Status::Usage,
+            Ending::HostFailed => Status::HostFailed,
+            Ending::TooLong => Status::BadInput,
+            Ending::NotText => Status::BadInput,
+            Ending::Memory => Status::Memory,
+        }
+    }
+
+    /// The line on standard error, or nothing.
+    pub(crate) fn complaint(self) -> &'static str
+        ensures { result.now ≡ complaint_of self }
+    {
+        match self {
+            Ending::Done { .. } => "",
+            Ending::Usage =>
+                "usage: algebra prove FILE [--cert OUT] [--without LIST] | check FILE CERT | demo N [--without LIST]\n",
+            Ending::HostFailed => "algebra: cannot read or write\n",
+            Ending::TooLong => "algebra: input too long\n",
+            Ending::NotText => "algebra: input is not UTF-8\n",
+            Ending::Memory => "algebra: out of memory\n",
         }
     }
 }

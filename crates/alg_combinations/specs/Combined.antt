@@ -1,18 +1,19 @@
 -- Combinations of hypotheses, and what an expression says as one.
-use Rattle.std.specs.Prelude.{◌≡◌, ℕ, List, Bool, true, false, Option, Some, None}
+use Rattle.std.specs.Prelude.{◌≡◌, ℕ, List, [], ◌∷◌, ◌++◌, Bool, true, false, Option, Some, None}
 use Rattle.alg_terms.specs.declared.sorts.Sort.{Sort}
 use Rattle.alg_terms.specs.Tree.{Tree}
 use Rattle.alg_expr.specs.declared.ids.ExprId.{ExprId}
 use Rattle.alg_expr.specs.Ids.{tree_of, IsIn}
 use Rattle.alg_law.specs.declared.combo.Combo.{Combo}
-use Rattle.alg_law.specs.declared.combo.Combo.TheVariants as combo
+use Rattle.alg_law.specs.declared.combo.ComboStep.{ComboStep}
+use Rattle.alg_law.specs.declared.combo.ComboStep.TheVariants as step
 use Rattle.alg_syntax.specs.declared.signs.Operator.{Operator}
 use Rattle.alg_syntax.specs.declared.signs.Operator.TheVariants.{Add, Sub, Mul, Div, Mod, Smul, Pow}
 use Rattle.alg_names.specs.declared.meanings.Meaning.{Meaning}
 use Rattle.alg_names.specs.declared.meanings.Meaning.TheVariants.{SortName, Variable, Function, Shared, Hypothesis}
 use Rattle.alg_names.specs.declared.scope.Scope.{Scope}
 use Rattle.alg_names.specs.InForce.{meaning}
-use Rattle.alg_elaborate.specs.Raw.{Raw, Raws, literal, named, negation, reciprocal, operation, applied, of_sort}
+use Rattle.alg_elaborate.specs.Raw.{Raw, literal, named, negation, reciprocal, operation, applied, of_sort}
 use Rattle.alg_elaborate.specs.Combinations.{is_proof, combines}
 use Rattle.alg_elaborate.specs.TypedTrees.{typed}
 
@@ -26,25 +27,30 @@ pub data Combination : Type 0 where
   product : Combination → Combination → Combination
   quotient : Combination → Combination → Combination
 
--- what a combination of the code says, over the trees of an arena
-pub data Says (ts : List Tree) : Combo → Combination → Type 0 where
-  says_hypothesis : (n : ℕ) → Says ts (combo.Hyp n) (hypothesis n)
-  says_expression : (e : ExprId) (t : Tree) → IsIn ts e → tree_of ts e ≡ t → Says ts (combo.Expr e) (expression t)
-  says_negative : (a : Combo) (x : Combination) → Says ts a x → Says ts (combo.Neg a) (negative x)
-  says_sum : (a b : Combo) (x y : Combination) → Says ts a x → Says ts b y → Says ts (combo.Add a b) (sum x y)
-  says_difference : (a b : Combo) (x y : Combination) → Says ts a x → Says ts b y → Says ts (combo.Sub a b) (difference x y)
-  says_product : (a b : Combo) (x y : Combination) → Says ts a x → Says ts b y → Says ts (combo.Mul a b) (product x y)
-  says_quotient : (a b : Combo) (x y : Combination) → Says ts a x → Says ts b y → Says ts (combo.Div a b) (quotient x y)
+-- The steps of the code in postfix order say a combination over the trees of an arena: what an operation acts on stands
+-- before it.
+abbrev pub Spells : List Tree → Combination → List ComboStep → Type 0
+Spells ts (hypothesis n) cs = cs ≡ step.Hyp n ∷ []
+Spells ts (expression t) cs = (e : ExprId) × (cs ≡ step.Expr e ∷ []) × IsIn ts e × (tree_of ts e ≡ t)
+Spells ts (negative a) cs = (xs : List ComboStep) × Spells ts a xs × (cs ≡ xs ++ step.Neg ∷ [])
+Spells ts (sum a b) cs = (xs : List ComboStep) × (ys : List ComboStep) × Spells ts a xs × Spells ts b ys × (cs ≡ xs ++ (ys ++ step.Add ∷ []))
+Spells ts (difference a b) cs = (xs : List ComboStep) × (ys : List ComboStep) × Spells ts a xs × Spells ts b ys × (cs ≡ xs ++ (ys ++ step.Sub ∷ []))
+Spells ts (product a b) cs = (xs : List ComboStep) × (ys : List ComboStep) × Spells ts a xs × Spells ts b ys × (cs ≡ xs ++ (ys ++ step.Mul ∷ []))
+Spells ts (quotient a b) cs = (xs : List ComboStep) × (ys : List ComboStep) × Spells ts a xs × Spells ts b ys × (cs ≡ xs ++ (ys ++ step.Div ∷ []))
 
--- an operation on combinations; only these four combine
+-- what a combination of the code says
+abbrev pub Says : List Tree → Combo → Combination → Type 0
+Says ts c x = Spells ts x c.steps
+
+-- an operation on combinations; the last three combine nothing
 abbrev pub joined : Operator → Combination → Combination → Combination
 joined Add a b = sum a b
 joined Sub a b = difference a b
 joined Mul a b = product a b
 joined Div a b = quotient a b
-joined Mod a b = a
-joined Smul a b = a
-joined Pow a b = a
+joined Mod a b = sum a b
+joined Smul a b = sum a b
+joined Pow a b = sum a b
 
 -- a hypothesis, or the tree of what is none
 abbrev pub named_combination : Tree → Option Meaning → Combination

@@ -1,8 +1,11 @@
 -- What is left to combine, newest first, over the combinations that were built, newest first.
-use Rattle.std.specs.Prelude.{◌≡◌, ℕ, ◌+◌, ◌*◌, ◌<◌, List, [], ◌∷◌, length, ⊤, Option, Some, None}
+use Rattle.std.specs.Prelude.{◌≡◌, ℕ, ◌+◌, ◌*◌, ◌<◌, List, [], ◌∷◌, ◌++◌, ⊤, Option, Some, None}
 use Rattle.alg_terms.specs.declared.sorts.Sort.{Sort}
 use Rattle.alg_terms.specs.Tree as terms
-use Rattle.alg_law.specs.declared.combo.Combo.{Combo}
+use Rattle.alg_law.specs.declared.combo.ComboStep.{ComboStep}
+use Rattle.alg_law.specs.declared.combo.ComboStep.TheVariants as step
+use Rattle.alg_syntax.specs.declared.signs.Operator.{Operator}
+use Rattle.alg_syntax.specs.declared.signs.Operator.TheVariants.{Add, Sub, Mul, Div, Mod, Smul, Pow}
 use Rattle.alg_syntax.specs.Expressions.{Tree}
 use Rattle.alg_syntax.specs.Nodes.{tree_at}
 use Rattle.alg_names.specs.declared.scope.Scope.{Scope}
@@ -12,7 +15,7 @@ use Rattle.alg_combinations.specs.declared.combining.Job.{Job}
 use Rattle.alg_combinations.specs.declared.combining.Job.TheVariants as job
 use Rattle.alg_combinations.specs.declared.combining.Leaf.{Leaf}
 use Rattle.alg_combinations.specs.declared.combining.Leaf.TheVariants as leaf
-use Rattle.alg_combinations.specs.Combined.{Combination, Says, hypothesis, expression, negative, joined, combined}
+use Rattle.alg_combinations.specs.Combined.{Combination, Spells, hypothesis, expression, negative, joined, combined}
 
 -- the combinations when all is built; where there are too few for a job, none
 abbrev pub done : Scope → Sort → List Tree → List Job → List Combination → List Combination
@@ -51,9 +54,17 @@ abbrev pub with_leaf : Scope → Sort → Raw → Option Leaf → List Combinati
 with_leaf s k r None vs = vs
 with_leaf s k r (Some l) vs = leaf_of s k r l ∷ vs
 
--- what each of these says, in order
-abbrev pub SayAll : List terms.Tree → List Combo → List Combination → Type 0
-SayAll ts [] [] = ⊤
-SayAll ts [] (v ∷ vs) = ⊥
-SayAll ts (c ∷ cs) [] = ⊥
-SayAll ts (c ∷ cs) (v ∷ vs) = Says ts c v × SayAll ts cs vs
+-- the step of an operation
+abbrev pub step_of : Operator → ComboStep
+step_of Add = step.Add
+step_of Sub = step.Sub
+step_of Mul = step.Mul
+step_of Div = step.Div
+step_of Mod = step.Add
+step_of Smul = step.Add
+step_of Pow = step.Add
+
+-- steps that say each of these, newest first, one behind the other
+abbrev pub SayAll : List terms.Tree → List ComboStep → List Combination → Type 0
+SayAll ts cs [] = cs ≡ []
+SayAll ts cs (v ∷ vs) = (xs : List ComboStep) × (ys : List ComboStep) × SayAll ts xs vs × Spells ts v ys × (cs ≡ xs ++ ys)

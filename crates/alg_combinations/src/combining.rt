@@ -1,5 +1,4 @@
-ghost use Rattle.std.specs.Prelude.{◌≡◌, ◌+◌, ◌*◌, ◌<◌, List, length, ◌∷◌, reverse, IfOk, option_map};
-ghost use Rattle.alg_terms.specs.Tree as terms;
+ghost use Rattle.std.specs.Prelude.{◌≡◌, ◌+◌, ◌*◌, ◌<◌, List, length, [], ◌∷◌, reverse, IfOk, option_map};
 ghost use Rattle.alg_expr.specs.Arena.{Extends};
 ghost use Rattle.alg_terms.specs.declared.sorts.Sort as sorts;
 ghost use Rattle.alg_syntax.specs.Nodes.{tree_at};
@@ -7,17 +6,16 @@ ghost use Rattle.alg_names.specs.declared.scope.Scope as declared;
 ghost use Rattle.alg_elaborate.specs.Raw.{Raw, meant, size};
 ghost use Rattle.alg_elaborate.specs.Tasks.{proofs_in};
 ghost use Rattle.alg_elaborate.specs.TypedTrees.{typed};
-ghost use Rattle.alg_combinations.specs.Combined.{Combination, Says, named_combination, combined};
-ghost use Rattle.alg_combinations.specs.Combined as spec;
-ghost use Rattle.alg_combinations.specs.Combining.{done, JobsIn, jobs_size, leaf_of, with_leaf, SayAll};
+ghost use Rattle.alg_combinations.specs.Combined.{Combination, Spells, Says, named_combination, combined};
+ghost use Rattle.alg_combinations.specs.Combining as steps;
+ghost use Rattle.alg_combinations.specs.Combining.{done, JobsIn, jobs_size, leaf_of, with_leaf};
 
 use alg_elaborate::{build, combines, is_marked};
-use alg_expr::{Arena, Memory, Sort};
-use alg_law::Combo;
+use alg_expr::{Arena, Items, Memory, Sort};
+use alg_law::{Combo, ComboStep};
 use alg_names::{Meaning, Scope};
 use alg_syntax::nodes::{Node, Nodes};
 use alg_syntax::signs::Operator;
-use sqlite_items::Boxed;
 use std::alloc::Global;
 
 // What is left to do: an expression, the negation of the newest combination, or an operation on the newest two.
@@ -34,17 +32,15 @@ enum Leaf {
     Expression,
 }
 
-// An operation on combinations.
-#[tactic(auto, using(crate::proofs::CombinedLaws::sum_says, crate::proofs::CombinedLaws::difference_says, crate::proofs::CombinedLaws::product_says, crate::proofs::CombinedLaws::quotient_says))]
-fn joined(alloc: Global, operator: Operator, left: Combo, right: Combo) -> Result<Combo, Memory>
-    ensures { IfOk result (λ c. (ts : List terms.Tree) (x y : Combination) → Says ts left x → Says ts right y → Says ts c (spec.joined operator x y)) }
+// The step of an operation; only these four combine.
+fn step_of(operator: Operator) -> ComboStep
+    ensures { result ≡ steps.step_of operator }
 {
     match operator {
-        Operator::Add => Ok(Combo::Add(Boxed::new(alloc, left)?, Boxed::new(alloc, right)?)),
-        Operator::Sub => Ok(Combo::Sub(Boxed::new(alloc, left)?, Boxed::new(alloc, right)?)),
-        Operator::Mul => Ok(Combo::Mul(Boxed::new(alloc, left)?, Boxed::new(alloc, right)?)),
-        Operator::Div => Ok(Combo::Div(Boxed::new(alloc, left)?, Boxed::new(alloc, right)?)),
-        _ => Ok(left),
+        Operator::Sub => ComboStep::Sub,
+        Operator::Mul => ComboStep::Mul,
+        Operator::Div => ComboStep::Div,
+        _ => ComboStep::Add,
     }
 }
 
@@ -104,9 +100,9 @@ fn plan<'a>(
     }
 }
 
-// A leaf of an expression.
+// The step of a leaf of an expression.
 #[tactic(auto, using(crate::proofs::CombinedLaws::extends_self))]
-fn add_leaf<'a>(
+fn leaf_step<'a>(
     alloc: Global,
     arena: &mut Arena,
     nodes: &Nodes<'a>,
@@ -114,42 +110,15 @@ fn add_leaf<'a>(
     kind: Sort,
     id: usize,
     leaf: Leaf,
-) -> Result<Combo, Memory>
+) -> Result<ComboStep, Memory>
     requires { id < length nodes.now }
     ensures kept { Extends arena.old arena.new }
-    ensures told { IfOk result (λ c. Says arena.new c (leaf_of scope.now kind (meant (tree_at nodes.now id)) leaf)) }
+    ensures told { IfOk result (λ c. Spells arena.new (leaf_of scope.now kind (meant (tree_at nodes.now id)) leaf) (c ∷ [])) }
 {
     match leaf {
-        Leaf::Hypothesis(number) => Ok(Combo::Hyp(number)),
-        Leaf::Expression => Ok(Combo::Expr(build(alloc, arena, nodes, scope, kind, id)?)),
+        Leaf::Hypothesis(number) => Ok(ComboStep::Hyp(number)),
+        Leaf::Expression => Ok(ComboStep::Expr(build(alloc, arena, nodes, scope, kind, id)?)),
     }
-}
-
-// The newest combination is negated.
-#[tactic(auto, using(crate::proofs::CombinedLaws::negated))]
-fn negate_newest(alloc: Global, values: &mut Vec<Combo>) -> Result<(), Memory>
-    ensures { IfOk result (λ _. (ts : List terms.Tree) (x : Combination) (vs : List Combination) → SayAll ts (reverse values.old.items) (x ∷ vs) → SayAll ts (reverse values.new.items) (spec.negative x ∷ vs)) }
-{
-    let Some(part) = values.pop() else {
-        return Ok(());
-    };
-    values.push(Combo::Neg(Boxed::new(alloc, part)?))?;
-    Ok(())
-}
-
-// The newest two combinations are joined.
-#[tactic(auto, using(crate::proofs::CombinedLaws::joined_two))]
-fn join_newest(alloc: Global, operator: Operator, values: &mut Vec<Combo>) -> Result<(), Memory>
-    ensures { IfOk result (λ _. (ts : List terms.Tree) (x y : Combination) (vs : List Combination) → SayAll ts (reverse values.old.items) (y ∷ x ∷ vs) → SayAll ts (reverse values.new.items) (spec.joined operator x y ∷ vs)) }
-{
-    let Some(right) = values.pop() else {
-        return Ok(());
-    };
-    let Some(left) = values.pop() else {
-        return Ok(());
-    };
-    values.push(joined(alloc, operator, left, right)?)?;
-    Ok(())
 }
 
 /// What an expression of the sort `kind` says as a combination of hypotheses. `proofs` says which expressions are
@@ -169,22 +138,21 @@ pub fn build_combination<'a>(
     ensures told { IfOk result (λ c. Says arena.new c (combined scope.now kind (meant (tree_at nodes.now id)))) }
 {
     let mut jobs: Vec<Job> = Vec::new(alloc);
-    let mut values: Vec<Combo> = Vec::new(alloc);
+    let mut steps: Vec<ComboStep> = Vec::new(alloc);
     jobs.push(Job::Down(id))?;
     'combining: while let Some(job) = jobs.pop() {
         match job {
             Job::Down(id) => {
                 if let Some(leaf) = plan(nodes, scope, proofs, &mut jobs, kind, id)? {
-                    let made = add_leaf(alloc, arena, nodes, scope, kind, id, leaf)?;
-                    values.push(made)?;
+                    let step = leaf_step(alloc, arena, nodes, scope, kind, id, leaf)?;
+                    steps.push(step)?;
                 }
             }
-            Job::Negate => negate_newest(alloc, &mut values)?,
-            Job::Join(operator) => join_newest(alloc, operator, &mut values)?,
+            Job::Negate => steps.push(ComboStep::Neg)?,
+            Job::Join(operator) => steps.push(step_of(operator))?,
         }
     }
-    match values.pop() {
-        Some(made) => Ok(made),
-        None => Ok(Combo::Hyp(0)),
-    }
+    Ok(Combo {
+        steps: Items::of(steps),
+    })
 }

@@ -35,4 +35,11 @@ impl Buffer {
     {
         self.bytes.extend_from_slice(piece).unwrap();
     }
+
+    pub fn clear(&mut self)
+        ensures bytes { self.new.bytes.items ≡ [] }
+        ensures room { self.new.room ≡ self.old.room }
+    {
+        self.bytes.clear();
+    }
 }

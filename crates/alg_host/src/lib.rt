@@ -7,7 +7,8 @@ pub mod memory_host;
 pub mod real_host;
 
 pub use alg_expr::Memory;
-pub use host::{Failed, Host, LoadFault};
+pub use alg_kernel::Proved;
+pub use host::{CreateFault, Failed, Host, LoadFault};
 pub use memory_host::MemoryHost;
 pub use real_host::RealHost;
 

@@ -1,25 +1,38 @@
 ghost use Rattle.std.specs.Prelude.{◌≤◌, length, IfOk};
 
-use crate::{Failed, Host, LoadFault};
+use crate::{CreateFault, Failed, Host, LoadFault};
+use alg_expr::Memory;
+use alg_kernel::Proved;
 use std::alloc::Global;
 use std::fs::File;
 use std::io;
-use std::io::{ErrorKind, Print, Read};
+use std::io::{ErrorKind, Print, Read, Write};
 
-/// The files and the standard output of the process. It tells neither content nor calls.
+/// The files, the standard output and the standard error of the process. It tells neither content nor calls, and drops
+/// the goals that it is handed.
 #[derive(Drop)]
 pub struct RealHost {
     rt: HostRuntime,
+    // the file that `append` adds to
+    created: Option<File>,
     faults: u64,
+    complaint_faults: u64,
 }
 
 impl RealHost {
-    ghost use Rattle.std.specs.Prelude.{◌≡◌};
+    ghost use Rattle.std.specs.Prelude.{◌≡◌, IsNone};
 
     pub fn new(rt: HostRuntime) -> RealHost
-        ensures { result.faults ≡ 0 }
+        ensures faults { result.faults ≡ 0 }
+        ensures complaint_faults { result.complaint_faults ≡ 0 }
+        ensures made { IsNone result.created }
     {
-        RealHost { rt, faults: 0 }
+        RealHost {
+            rt,
+            created: None,
+            faults: 0,
+            complaint_faults: 0,
+        }
     }
 }
 
@@ -67,7 +80,35 @@ fn read_file(rt: &HostRuntime, alloc: Global, path: &str, limit: u64) -> Result<
     }
 }
 
+fn create_fault(error: io::Error) -> CreateFault {
+    if error.kind() == ErrorKind::OutOfMemory {
+        CreateFault::Memory
+    } else {
+        CreateFault::Failed
+    }
+}
+
 // Writes the whole piece. A write that takes nothing of it is a failure.
+fn write_piece(file: &mut File, piece: &[u8]) -> Result<(), Failed> {
+    let mut rest = piece;
+    for _ in 0..u64::MAX {
+        if rest.is_empty() {
+            return Ok(());
+        }
+        match file.write(rest) {
+            Ok(0) => return Err(Failed),
+            Ok(count) => rest = &rest[count..],
+            Err(error) => {
+                if error.kind() != ErrorKind::Interrupted {
+                    return Err(Failed);
+                }
+            }
+        }
+    }
+    Err(Failed)
+}
+
+// The same on an output of the process.
 fn print_piece<P: Print>(out: &P, piece: &[u8]) -> Result<(), Failed> {
     let mut rest = piece;
     for _ in 0..u64::MAX {
@@ -88,9 +129,13 @@ fn print_piece<P: Print>(out: &P, piece: &[u8]) -> Result<(), Failed> {
 }
 
 impl Host for RealHost {
-    ghost use Rattle.std.specs.Prelude.{None};
+    ghost use Rattle.std.specs.Prelude.{None, is_some};
 
     ghost faults = { λ h. h.faults };
+
+    ghost complaint_faults = { λ h. h.complaint_faults };
+
+    ghost made = { λ h. is_some h.created };
 
     ghost told = { λ _. None };
 
@@ -106,6 +151,35 @@ impl Host for RealHost {
         }
     }
 
+    fn create(&mut self, _alloc: Global, path: &str) -> Result<(), CreateFault> {
+        match File::create(&self.rt, path) {
+            Ok(file) => {
+                self.created = Some(file);
+                Ok(())
+            }
+            Err(error) => match create_fault(error) {
+                CreateFault::Memory => Err(CreateFault::Memory),
+                CreateFault::Failed => {
+                    self.faults = self.faults.saturating_add(1);
+                    Err(CreateFault::Failed)
+                }
+            },
+        }
+    }
+
+    fn append(&mut self, bytes: &[u8]) -> Result<(), Failed> {
+        let Some(file) = &mut self.created else {
+            unreachable!();
+        };
+        match write_piece(file, bytes) {
+            Ok(()) => Ok(()),
+            Err(Failed) => {
+                self.faults = self.faults.saturating_add(1);
+                Err(Failed)
+            }
+        }
+    }
+
     fn say(&mut self, bytes: &[u8]) -> Result<(), Failed> {
         match print_piece(&self.rt.stdout(), bytes) {
             Ok(()) => Ok(()),
@@ -114,5 +188,19 @@ impl Host for RealHost {
                 Err(Failed)
             }
         }
+    }
+
+    fn complain(&mut self, bytes: &[u8]) -> Result<(), Failed> {
+        match print_piece(&self.rt.stderr(), bytes) {
+            Ok(()) => Ok(()),
+            Err(Failed) => {
+                self.complaint_faults = self.complaint_faults.saturating_add(1);
+                Err(Failed)
+            }
+        }
+    }
+
+    fn proved(&mut self, _alloc: Global, _goal: Proved) -> Result<(), Memory> {
+        Ok(())
     }
 }

@@ -1,4 +1,4 @@
-use crate::{Failed, Host, LoadFault, MemoryHost, RealHost};
+use crate::{CreateFault, Failed, Host, LoadFault, MemoryHost, RealHost};
 use std::alloc::{AllocError, Global};
 use std::collections::BTreeMap;
 use std::test::Fail;
@@ -34,31 +34,43 @@ fn loads_from_memory(rt: HostRuntime) -> Result<(), Fail> {
 }
 
 #[test]
-fn says_in_memory(rt: HostRuntime) -> Result<(), Fail> {
+fn adds_in_memory(rt: HostRuntime) -> Result<(), Fail> {
     let alloc = rt.alloc();
-    let failing = vec![in alloc; 2u64, 9u64]?;
+    let failing = vec![in alloc; 1u64, 4u64]?;
     let mut host = MemoryHost::new(alloc, BTreeMap::new(alloc), failing, 5)?;
+    assert_eq!(rt; host.create(alloc, "OUT"), Err(CreateFault::Failed));
+    assert_eq!(rt; host.create(alloc, "OUT"), Ok(()));
     let rows = [
-        ("ab", Ok(()), "ab"),
-        ("c", Err(Failed), "ab"),
-        ("wxyz", Err(Failed), "ab"),
-        ("def", Ok(()), "abdef"),
-        ("", Ok(()), "abdef"),
-        ("g", Err(Failed), "abdef"),
+        ("ab", Ok(()), Err(Failed), Ok(()), "ab", ""),
+        ("wxyz", Err(Failed), Ok(()), Err(Failed), "ab", "wxyz"),
+        ("def", Ok(()), Err(Failed), Ok(()), "abdef", "wxyz"),
+        ("", Ok(()), Ok(()), Ok(()), "abdef", "wxyz"),
     ];
-    for (piece, want, said) in rows {
-        assert_eq!(rt; host.say(piece.as_bytes()), want, "{piece}");
-        assert_eq!(rt; host.said(), said.as_bytes(), "after {piece}");
+    for (piece, appends, complains, says, added, complained) in rows {
+        let bytes = piece.as_bytes();
+        assert_eq!(rt; host.append(bytes), appends, "{piece}");
+        assert_eq!(rt; host.complain(bytes), complains, "{piece}");
+        assert_eq!(rt; host.say(bytes), says, "{piece}");
+        assert_eq!(rt; host.created(), added.as_bytes(), "after {piece}");
+        assert_eq!(rt; host.said(), added.as_bytes(), "after {piece}");
+        assert_eq!(rt; host.complained(), complained.as_bytes(), "after {piece}");
     }
+    assert_eq!(rt; host.create(alloc, "OUT"), Err(CreateFault::Failed));
+    assert_eq!(rt; host.goals().len(), 0);
     Ok(())
 }
 
 #[test]
-fn loads_and_says_for_real(rt: HostRuntime) -> Result<(), Fail> {
+fn works_for_real(rt: HostRuntime) -> Result<(), Fail> {
     let alloc = rt.alloc();
     let mut host = RealHost::new(rt);
     let missing = host.load(alloc, "no/such/file", 1 << 24);
     assert_eq!(rt; missing.err(), Some(LoadFault::Failed));
+    assert_eq!(rt;
+        host.create(alloc, "no/such/file"),
+        Err(CreateFault::Failed)
+    );
     assert_eq!(rt; host.say(b"said\n"), Ok(()));
+    assert_eq!(rt; host.complain(b"complained\n"), Ok(()));
     Ok(())
 }

@@ -4,6 +4,7 @@
 pub mod answers;
 mod bridges;
 mod computations;
+pub mod conclusions;
 mod congruence;
 mod filling;
 mod grounds;
@@ -20,5 +21,6 @@ mod tests;
 
 pub use alg_terms::BadCause;
 pub use answers::{Checked, Refusal};
+pub use conclusions::conclusion;
 pub use kernel::{Kernel, accept};
 pub use proved::{Proved, ProvedStmt};

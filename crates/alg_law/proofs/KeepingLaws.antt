@@ -65,7 +65,7 @@ module _ (old new : List Tree) (ds : List Declared) (o : Declared) (d : Declarat
         well_formed = subst IsWellFormed (sym (view-push x h e f)) (AllMayFollow-push [] v d (subst IsWellFormed e h.well_formed) m);
       }
 
-declarations_of-take : (ts : List Tree) (n : ℕ) (ds : List Declared) → declarations_of ts (take n ds) ≡ take n (declarations_of ts ds)
+pub declarations_of-take : (ts : List Tree) (n : ℕ) (ds : List Declared) → declarations_of ts (take n ds) ≡ take n (declarations_of ts ds)
 declarations_of-take ts zero ds = refl
 declarations_of-take ts (suc n) [] = refl
 declarations_of-take ts (suc n) (d ∷ ds) = ap (λ (x : List Declaration). declaration_of ts d ∷ x) (declarations_of-take ts n ds)

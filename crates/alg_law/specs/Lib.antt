@@ -2,6 +2,7 @@ pub mod Classes
 pub mod DeclarationCode
 pub mod Declarations
 pub mod Following
+pub mod Growing
 pub mod Having
 pub mod HavingLaws
 pub mod Keeping

@@ -3,6 +3,7 @@ ghost use Rattle.alg_expr.specs.Arena.{Extends};
 ghost use Rattle.alg_expr.specs.Ids.{statement_of, IsStatementIn};
 ghost use Rattle.alg_law.specs.Declarations.{declaration_of, declarations_of, IsDeclaredIn};
 ghost use Rattle.alg_law.specs.Following.{MayFollow, AllMayFollow, IsWellFormed};
+ghost use Rattle.alg_law.specs.Growing.{HasGrown};
 ghost use Rattle.alg_law.specs.Having.{is_decl, instance_gives, instances_give, has_class, Has};
 ghost use Rattle.alg_law.specs.Lawful.{IsLawful};
 ghost use Rattle.alg_law.specs.Looking.{IsSignature};
@@ -99,11 +100,24 @@ impl Base {
         Ok(())
     }
 
+    /// Adds declarations in order, and copies the statements of hypotheses, which are of `from`. Where memory is
+    /// wanting, it adds the first of them alone.
+    pub fn push_all(&mut self, from: &Arena, ds: &[Declared]) -> Result<(), Memory>
+        requires room { length self.old + length ds.now < 2 ^ 32 }
+        requires here { All (IsDeclaredIn from.now) ds.now }
+        requires fit { AllMayFollow self.old (declarations_of from.now ds.now) }
+        ensures ok { OnOk result (self.new ≡ self.old ++ declarations_of from.now ds.now) }
+        ensures err { OnErr result (HasGrown self.old (declarations_of from.now ds.now) self.new) }
+    {
+        self.keep_all(from, ds)
+    }
+
     // adds copies of declarations
     fn keep_all(&mut self, from: &Arena, ds: &[Declared]) -> Result<(), Memory>
         requires here { All (IsDeclaredIn from.now) ds.now }
         requires fit { AllMayFollow self.old (declarations_of from.now ds.now) }
         ensures ok { OnOk result (self.new ≡ self.old ++ declarations_of from.now ds.now) }
+        ensures err { OnErr result (HasGrown self.old (declarations_of from.now ds.now) self.new) }
     {
         for d in ds {
             self.keep(from, d)?;

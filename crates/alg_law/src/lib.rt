@@ -18,7 +18,7 @@ pub mod rows;
 
 pub use base::{Base, Declarations, Signature, has};
 pub use classes::Class;
-pub use combo::Combo;
+pub use combo::{Combo, ComboStep};
 pub use declarations::Declared;
 pub use law_table::{law_named, laws};
 pub use marks::{Mark, mark_for, mark_for_head, mark_for_sort, relates, worse_of};

@@ -26,7 +26,7 @@ natural-num Rat v n e = cc
 natural-num (Decl k) v n e = cc
 
 -- only natural trees have a value
-value-nat : (t : Tree) (n : ℕ) → value t ≡ Num n → sort_of_tree t ≡ Nat
+pub value-nat : (t : Tree) (n : ℕ) → value t ≡ Num n → sort_of_tree t ≡ Nat
 value-nat (Lit s m) n e = natural-num s _ n e
 value-nat (Var d s) n e = cc
 value-nat (App f s xs) n e = natural-num s _ n e

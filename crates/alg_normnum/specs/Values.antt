@@ -2,6 +2,8 @@
 use Rattle.std.specs.Prelude.{◌≡◌, ℕ, ◌+◌, ◌*◌, ◌^◌, nat_lt, nat_eq, List, [], ◌∷◌, if◌then◌else◌}
 use Rattle.alg_terms.specs.declared.sorts.Sort.{Sort}
 use Rattle.alg_terms.specs.declared.sorts.Sort.TheVariants.{Nat, Int, Rat, Decl}
+use Rattle.alg_terms.specs.declared.relations.Rel.{Rel}
+use Rattle.alg_terms.specs.declared.relations.Rel.TheVariants.{Eq, Ne, Lt, Le, Dvd}
 use Rattle.alg_terms.specs.declared.symbols.Sym.{Sym}
 use Rattle.alg_terms.specs.declared.symbols.Sym.TheVariants.{Add, Mul}
 use Rattle.alg_terms.specs.Tree.{Tree, Lit, Var, App, Trees, Nil, Cons, Statement}
@@ -48,7 +50,7 @@ abbrev mutual
   values Nil = []
   values (Cons x xs) = value x ∷ values xs
 
--- what norm_num is to answer
+-- what norm_num is to answer; `NotThis` where it's no equation of ℕ whose trees have only literals, sums and products
 pub data Answer : Type 0 where
   Closed : Answer
   False : Answer
@@ -65,5 +67,19 @@ compared Past Past = Range
 compared Past NoValue = NotThis
 compared NoValue v = NotThis
 
+abbrev pub answer_of : (lhs rhs : Tree) → Answer
+answer_of l r = compared (value l) (value r)
+
+-- only equations of ℕ are answered
+abbrev pub equation : Rel → Sort → Answer → Answer
+equation Eq Nat a = a
+equation Eq Int a = NotThis
+equation Eq Rat a = NotThis
+equation Eq (Decl k) a = NotThis
+equation Ne s a = NotThis
+equation Lt s a = NotThis
+equation Le s a = NotThis
+equation Dvd s a = NotThis
+
 abbrev pub answer_to : Statement → Answer
-answer_to s = compared (value s.lhs) (value s.rhs)
+answer_to s = equation s.rel s.sort (answer_of s.lhs s.rhs)

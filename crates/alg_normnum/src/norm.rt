@@ -1,13 +1,13 @@
-ghost use Rattle.std.specs.Prelude.{◌≡◌, ℕ, ◌+◌, ◌*◌, ◌<◌, ◌≤◌, ◌^◌, ◌++◌, [], ◌∷◌, length, OnErr, IfOk, IfSome, IsNone, ◌≢◌, ◌↔◌, IsTrue};
+ghost use Rattle.std.specs.Prelude.{◌≡◌, ℕ, ◌+◌, ◌*◌, ◌<◌, ◌≤◌, ◌^◌, ◌++◌, [], ◌∷◌, length, OnErr, IfOk, IfSome, IsNone, ◌≢◌, ◌↔◌, IsTrue, IsFalse};
 ghost use Rattle.alg_terms.specs.Tree.{Lit, App, Cons, Nil, Statement, sum_tree, product_tree};
 ghost use Rattle.alg_expr.specs.Ids.{tree_of, IsIn, statement_of, IsStatementIn};
-ghost use Rattle.alg_build.specs.Book.{Proves, IsEquation, Grows, KeepsLines, left_at, right_at};
-ghost use Rattle.alg_normnum.specs.Values.{answer_to};
-ghost use Rattle.alg_normnum.specs.Goals.{IsSumGoal, Answers, Closes};
+ghost use Rattle.alg_build.specs.Book.{Proves, IsEquation, Grows, LeavesLines, left_at, right_at};
+ghost use Rattle.alg_normnum.specs.Values.{answer_of, answer_to, equation, NotThis, Answer};
+ghost use Rattle.alg_normnum.specs.Goals.{Answers, Closes};
 ghost use Rattle.alg_normnum.specs.Found.{IsNumber, IsValued, AreValued, Meets};
 
 use alg_build::{Builder, Outcome, TacFault};
-use alg_expr::{ExprId, Memory, Sort, Stmt, Sym, View};
+use alg_expr::{ExprId, Memory, Rel, Sort, Stmt, Sym, View};
 
 const LIMIT: u128 = 0x7fff_ffff_ffff_ffff_ffff_ffff_ffff_ffff;
 
@@ -52,7 +52,7 @@ fn sum(
     if total > LIMIT {
         return Ok(Valued::Past);
     }
-    let parts = cx.cong(Sym::Add, Sort::Nat, &[i, j])?;
+    let parts = cx.cong(Sym::Add, &[i, j])?;
     let law = cx.lit_add(Sort::Nat, m, n)?;
     let line = cx.trans(parts, law)?;
     Ok(Valued::Num { value: total, line })
@@ -77,7 +77,7 @@ fn product(
         Some(total) if total <= LIMIT => {}
         _ => return Ok(Valued::Past),
     }
-    let parts = cx.cong(Sym::Mul, Sort::Nat, &[i, j])?;
+    let parts = cx.cong(Sym::Mul, &[i, j])?;
     let law = cx.lit_mul(Sort::Nat, m, n)?;
     let line = cx.trans(parts, law)?;
     Ok(Valued::Num { value: m * n, line })
@@ -255,7 +255,7 @@ fn equal_numbers(
 fn compare(cx: &mut Builder, goal: Stmt, x: Valued, y: Valued) -> Result<usize, TacFault>
     requires left { IsValued cx.old (tree_of cx.old.trees goal.lhs) x }
     requires right { IsValued cx.old (tree_of cx.old.trees goal.rhs) y }
-    ensures answer { Meets result (answer_to (statement_of cx.old.trees goal)) }
+    ensures answer { Meets result (answer_of (tree_of cx.old.trees goal.lhs) (tree_of cx.old.trees goal.rhs)) }
     ensures closed { IfOk result (λ n. Proves cx.new n (tree_of cx.old.trees goal.lhs) (tree_of cx.old.trees goal.rhs)) }
     ensures grows { Grows cx.old cx.new }
 {
@@ -284,7 +284,7 @@ fn compare(cx: &mut Builder, goal: Stmt, x: Valued, y: Valued) -> Result<usize, 
 #[tactic(auto, using(alg_build::proofs::Lines::lines))]
 fn attempt(cx: &mut Builder, goal: Stmt) -> Result<usize, TacFault>
     requires { IsStatementIn cx.old.trees goal }
-    ensures answer { Meets result (answer_to (statement_of cx.old.trees goal)) }
+    ensures answer { Meets result (answer_of (tree_of cx.old.trees goal.lhs) (tree_of cx.old.trees goal.rhs)) }
     ensures closed { IfOk result (λ n. Proves cx.new n (tree_of cx.old.trees goal.lhs) (tree_of cx.old.trees goal.rhs)) }
     ensures grows { Grows cx.old cx.new }
 {
@@ -298,17 +298,27 @@ fn attempt(cx: &mut Builder, goal: Stmt) -> Result<usize, TacFault>
     compare(cx, goal, x, y)
 }
 
-/// Closes an equation of ℕ whose sides have only literals, sums and products, by their values. `OutOfRange` comes
-/// exactly where a sum or product at some node is above 2^127 - 1, and else `GoalFalse` exactly where the values
-/// differ. After any fault the lines are as before.
+// whether the goal is an equation of ℕ
+fn is_equation(goal: Stmt) -> bool
+    ensures yes { IsTrue result → (goal.rel ≡ Rel.Eq) × (goal.sort ≡ Sort.Nat) }
+    ensures no { IsFalse result → (a : Answer) → equation goal.rel goal.sort a ≡ NotThis }
+{
+    matches!(goal.rel, Rel::Eq) && is_nat(goal.sort)
+}
+
+/// Closes an equation of ℕ whose sides have only literals, sums and products, by their values. `NotThisGoal` comes
+/// exactly where the goal is another. `OutOfRange` comes exactly where it is none, and a sum or product at some node is
+/// above 2^127 - 1, and else `GoalFalse` exactly where the values differ. After any fault the lines are as before.
 pub fn norm_num(cx: &mut Builder, goal: Stmt) -> Result<Outcome, TacFault>
-    requires here { IsStatementIn cx.old.trees goal }
-    requires sums { IsSumGoal (statement_of cx.old.trees goal) }
+    requires { IsStatementIn cx.old.trees goal }
     ensures answer { Answers result (answer_to (statement_of cx.old.trees goal)) }
     ensures closed { IfOk result (λ o. Closes cx.new o (statement_of cx.old.trees goal)) }
     ensures grows { Grows cx.old cx.new }
-    ensures leaves { OnErr result (KeepsLines cx.old cx.new) }
+    ensures leaves { OnErr result (LeavesLines cx.old cx.new) }
 {
+    if !is_equation(goal) {
+        return Err(TacFault::NotThisGoal);
+    }
     let mark = cx.mark();
     match attempt(cx, goal) {
         Ok(line) => Ok(Outcome::Closed { line }),

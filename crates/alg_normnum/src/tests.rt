@@ -91,6 +91,7 @@ fn answer(cx: &mut Builder, left: ExprId, r: u128) -> Result<&'static str, Memor
     match norm_num(cx, goal) {
         Ok(Outcome::Closed { line }) if line == cx.lines().len() => Ok("closed"),
         Ok(Outcome::Closed { .. }) => Ok("closed too early"),
+        Ok(Outcome::Left { .. }) => Ok("a goal is left"),
         Err(TacFault::Memory) => Err(Memory),
         Err(_) if cx.lines().len() != 0 => Ok("lines are left"),
         Err(TacFault::GoalFalse) => Ok("goal is false"),

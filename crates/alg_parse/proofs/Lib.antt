@@ -1,1 +1,5 @@
+pub mod CallLaws
+pub mod Keeping
 pub mod Looked
+pub mod ProgressLaws
+pub mod TellingLaws

@@ -1,6 +1,5 @@
 -- What the commands of a file tell, each in the declarations of those before it.
-use Rattle.std.specs.Prelude.{◌≡◌, ℕ, List, [], ◌∷◌, ◌++◌, length, Option, Some, None, Result, Ok, Err}
-use Rattle.alg_terms.specs.declared.sorts.Sort.{Sort}
+use Rattle.std.specs.Prelude.{ℕ, List, [], ◌∷◌, ◌++◌, length, Option, Some, None, Result, Ok, Err}
 use Rattle.alg_lex.specs.Items.{Item}
 use Rattle.alg_lex.specs.declared.LexFault.{LexFault}
 use Rattle.alg_lex.specs.declared.LexFault.TheVariants as lexical

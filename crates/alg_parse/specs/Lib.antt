@@ -1,5 +1,6 @@
-pub mod Combined
 pub mod Elaborated
 pub mod Files
+pub mod FileTrees
 pub mod Procedures
+pub mod Progress
 pub mod Told

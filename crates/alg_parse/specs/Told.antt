@@ -1,5 +1,5 @@
 -- What a command of a file tells.
-use Rattle.std.specs.Prelude.{ℕ, List, [], ◌∷◌, ◌++◌, map, codes, decimal, unwrap_or}
+use Rattle.std.specs.Prelude.{ℕ, List, [], ◌∷◌, ◌++◌, codes, decimal, unwrap_or}
 use Rattle.alg_terms.specs.declared.sorts.Sort.{Sort}
 use Rattle.alg_terms.specs.Tree.{Statement}
 use Rattle.alg_law.specs.Declarations.{Declaration}
@@ -13,7 +13,7 @@ use Rattle.alg_elaborate.specs.Raw.{meant}
 use Rattle.alg_parse.specs.declared.procedures.Proc.{Proc}
 use Rattle.alg_parse.specs.declared.procedures.Proc.TheVariants.{NormNum}
 use Rattle.alg_parse.specs.Procedures.{procedure_named}
-use Rattle.alg_parse.specs.Combined.{Combined, combined}
+use Rattle.alg_combinations.specs.Combined.{Combination as Combined, combined}
 
 -- a procedure that is its name alone, or one with a combination
 pub data Call : Type 0 where

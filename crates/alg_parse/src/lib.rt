@@ -3,12 +3,23 @@
 
 mod causes;
 mod commands;
+mod file_trees;
+mod goals;
 mod labels;
 mod procedures;
+mod reader;
+mod scripts;
 mod used_names;
 
+pub use alg_elaborate::Cause;
 pub use causes::cause_of;
 pub use commands::{Elaborated, elaborate_command};
+pub use file_trees::{Command, FileTree, read_file};
+pub use goals::build_procedures;
 pub use labels::unnamed;
 pub use procedures::{Proc, procedure_named};
+pub use scripts::build_script;
 pub use used_names::UsedNames;
+
+#[cfg(test)]
+mod tests;

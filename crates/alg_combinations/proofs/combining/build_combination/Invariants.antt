@@ -10,7 +10,7 @@ abbrev pub invariant-combining : goal.invariant-combining
 invariant-combining l = record {
   within : JobsIn (length l.nodes) (reverse l.jobs.items);
   kept : Extends l.fn.arena l.arena;
-  same : (vs : List Combination) × SayAll l.arena (reverse l.values.items) vs × (combined l.scope l.kind (meant (tree_at l.nodes l.fn.id)) ∷ [] ≡ done l.scope l.kind l.nodes (reverse l.jobs.items) vs);
+  same : (vs : List Combination) × SayAll l.arena l.steps.items vs × (combined l.scope l.kind (meant (tree_at l.nodes l.fn.id)) ∷ [] ≡ done l.scope l.kind l.nodes (reverse l.jobs.items) vs);
 }
 
 abbrev pub decreases-combining : goal.decreases-combining

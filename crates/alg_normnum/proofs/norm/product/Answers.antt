@@ -1,4 +1,5 @@
 use Rattle.std.proofs.Common.{◌≡◌, ◌∙◌, ◌+◌, ◌*◌, arith}
+use Rattle.alg_terms.specs.declared.sorts.Sort.TheVariants.{Nat}
 use Rattle.alg_terms.specs.declared.symbols.Sym.TheVariants.{Mul}
 use Rattle.alg_expr.specs.Ids.{tree_of}
 use Rattle.alg_normnum.proofs.Emit.{in_range-num, product_value, two_equations, product_fits, chain_first, chain_second, chain_middle, chain_proves, chain_grows}
@@ -8,23 +9,23 @@ pub cong-requires-clause-equations : goal.cong-requires-clause-equations
 cong-requires-clause-equations c = two_equations c.args.cx.now (tree_of c.args.cx.now.trees c.args.a) (tree_of c.args.cx.now.trees c.args.b) c.args.m c.args.n c.args.i c.args.j c.requires.left c.requires.right
 
 pub cong-requires-clause-fits : goal.cong-requires-clause-fits
-cong-requires-clause-fits c = product_fits c.args.cx.now (tree_of c.args.cx.now.trees c.args.a) (tree_of c.args.cx.now.trees c.args.b) c.args.m c.args.n c.args.i c.args.j c.requires.left c.requires.right
+cong-requires-clause-fits c = (Nat, product_fits c.args.cx.now (tree_of c.args.cx.now.trees c.args.a) (tree_of c.args.cx.now.trees c.args.b) c.args.m c.args.n c.args.i c.args.j c.requires.left c.requires.right)
 
 pub trans-requires-clause-first : goal.trans-requires-clause-first
-trans-requires-clause-first c = chain_first c.args.cx.now c.cong.new.self c.lit_mul.new.self Mul c.args.i c.args.j c.in_ok-parts.parts c.in_ok-law.law c.args.m c.args.n (c.args.m * c.args.n) (tree_of c.args.cx.now.trees c.args.a) (tree_of c.args.cx.now.trees c.args.b) _ _ c.requires.left.proves c.requires.right.proves c.in_ok-parts.ensures.adds c.in_ok-law.ensures.adds
+trans-requires-clause-first c = chain_first c.args.cx.now c.cong.new.self c.lit_mul.new.self Mul c.args.i c.args.j c.in_ok-parts.parts c.in_ok-law.law c.args.m c.args.n (c.args.m * c.args.n) (tree_of c.args.cx.now.trees c.args.a) (tree_of c.args.cx.now.trees c.args.b) _ _ c.requires.left.proves c.requires.right.proves (c.in_ok-parts.ensures.adds Nat (product_fits c.args.cx.now (tree_of c.args.cx.now.trees c.args.a) (tree_of c.args.cx.now.trees c.args.b) c.args.m c.args.n c.args.i c.args.j c.requires.left c.requires.right)) c.in_ok-law.ensures.adds
 
 pub trans-requires-clause-second : goal.trans-requires-clause-second
-trans-requires-clause-second c = chain_second c.args.cx.now c.cong.new.self c.lit_mul.new.self Mul c.args.i c.args.j c.in_ok-parts.parts c.in_ok-law.law c.args.m c.args.n (c.args.m * c.args.n) (tree_of c.args.cx.now.trees c.args.a) (tree_of c.args.cx.now.trees c.args.b) _ _ c.requires.left.proves c.requires.right.proves c.in_ok-parts.ensures.adds c.in_ok-law.ensures.adds
+trans-requires-clause-second c = chain_second c.args.cx.now c.cong.new.self c.lit_mul.new.self Mul c.args.i c.args.j c.in_ok-parts.parts c.in_ok-law.law c.args.m c.args.n (c.args.m * c.args.n) (tree_of c.args.cx.now.trees c.args.a) (tree_of c.args.cx.now.trees c.args.b) _ _ c.requires.left.proves c.requires.right.proves (c.in_ok-parts.ensures.adds Nat (product_fits c.args.cx.now (tree_of c.args.cx.now.trees c.args.a) (tree_of c.args.cx.now.trees c.args.b) c.args.m c.args.n c.args.i c.args.j c.requires.left c.requires.right)) c.in_ok-law.ensures.adds
 
 pub trans-requires-clause-middle : goal.trans-requires-clause-middle
-trans-requires-clause-middle c = chain_middle c.args.cx.now c.cong.new.self c.lit_mul.new.self Mul c.args.i c.args.j c.in_ok-parts.parts c.in_ok-law.law c.args.m c.args.n (c.args.m * c.args.n) (tree_of c.args.cx.now.trees c.args.a) (tree_of c.args.cx.now.trees c.args.b) _ _ c.requires.left.proves c.requires.right.proves c.in_ok-parts.ensures.adds c.in_ok-law.ensures.adds
+trans-requires-clause-middle c = chain_middle c.args.cx.now c.cong.new.self c.lit_mul.new.self Mul c.args.i c.args.j c.in_ok-parts.parts c.in_ok-law.law c.args.m c.args.n (c.args.m * c.args.n) (tree_of c.args.cx.now.trees c.args.a) (tree_of c.args.cx.now.trees c.args.b) _ _ c.requires.left.proves c.requires.right.proves (c.in_ok-parts.ensures.adds Nat (product_fits c.args.cx.now (tree_of c.args.cx.now.trees c.args.a) (tree_of c.args.cx.now.trees c.args.b) c.args.m c.args.n c.args.i c.args.j c.requires.left c.requires.right)) c.in_ok-law.ensures.adds
 
 pub returns-clause-valued : goal.returns-clause-valued
 returns-clause-valued c = record {
   value = product_value (tree_of c.args.cx.now.trees c.args.a) (tree_of c.args.cx.now.trees c.args.b) c.args.m c.args.n c.requires.left.value c.requires.right.value ∙ in_range-num _ (omega arith);
   small = omega arith;
-  proves = chain_proves c.args.cx.now c.cong.new.self c.lit_mul.new.self Mul c.args.i c.args.j c.in_ok-parts.parts c.in_ok-law.law c.args.m c.args.n (c.args.m * c.args.n) (tree_of c.args.cx.now.trees c.args.a) (tree_of c.args.cx.now.trees c.args.b) _ _ c.requires.left.proves c.requires.right.proves c.in_ok-parts.ensures.adds c.in_ok-law.ensures.adds _ _ _ c.in_ok-line.ensures.adds;
+  proves = chain_proves c.args.cx.now c.cong.new.self c.lit_mul.new.self Mul c.args.i c.args.j c.in_ok-parts.parts c.in_ok-law.law c.args.m c.args.n (c.args.m * c.args.n) (tree_of c.args.cx.now.trees c.args.a) (tree_of c.args.cx.now.trees c.args.b) _ _ c.requires.left.proves c.requires.right.proves (c.in_ok-parts.ensures.adds Nat (product_fits c.args.cx.now (tree_of c.args.cx.now.trees c.args.a) (tree_of c.args.cx.now.trees c.args.b) c.args.m c.args.n c.args.i c.args.j c.requires.left c.requires.right)) c.in_ok-law.ensures.adds _ _ _ c.in_ok-line.ensures.adds;
 }
 
 pub returns-clause-grows : goal.returns-clause-grows
-returns-clause-grows c = chain_grows c.args.cx.now c.cong.new.self c.lit_mul.new.self Mul c.args.i c.args.j c.in_ok-parts.parts c.in_ok-law.law c.args.m c.args.n (c.args.m * c.args.n) (tree_of c.args.cx.now.trees c.args.a) (tree_of c.args.cx.now.trees c.args.b) _ _ c.requires.left.proves c.requires.right.proves c.in_ok-parts.ensures.adds c.in_ok-law.ensures.adds _ _ _ c.in_ok-line.ensures.adds
+returns-clause-grows c = chain_grows c.args.cx.now c.cong.new.self c.lit_mul.new.self Mul c.args.i c.args.j c.in_ok-parts.parts c.in_ok-law.law c.args.m c.args.n (c.args.m * c.args.n) (tree_of c.args.cx.now.trees c.args.a) (tree_of c.args.cx.now.trees c.args.b) _ _ c.requires.left.proves c.requires.right.proves (c.in_ok-parts.ensures.adds Nat (product_fits c.args.cx.now (tree_of c.args.cx.now.trees c.args.a) (tree_of c.args.cx.now.trees c.args.b) c.args.m c.args.n c.args.i c.args.j c.requires.left c.requires.right)) c.in_ok-law.ensures.adds _ _ _ c.in_ok-line.ensures.adds

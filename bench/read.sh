@@ -1,0 +1,66 @@
+#!/usr/bin/env bash
+# Measures how `algebra prove` reads files: 1,000, 10,000 and 100,000 theorems and as many declarations, 1.6 MiB and
+# 16 MiB of faulty commands, and one command of 4,096 tokens that is nested as deep as it may be. For each the
+# processor's seconds and the peak memory of three runs, and how the median grows from one size to the next. A factor
+# of at most 12 for 10 times the size is linear growth. The theorems' procedure fails at once, so that reading is
+# nearly all that is done. Run it from anywhere; it builds the program first where that isn't done.
+set -euo pipefail
+top=$(cd "$(dirname "$0")/.." && pwd)
+work=$(mktemp -d)
+trap 'rm -rf "$work"' EXIT
+"$top/algebra" prove /dev/null >/dev/null
+
+python3 - "$top/crates/algebra/out/algebra" "$work" <<'PY'
+import os, subprocess, sys
+program, work = sys.argv[1:]
+path = os.path.join(work, "file.alg")
+
+def theorems(count):
+    head = "variable {R : Type*} [CommRing R] (x y : R)\n"
+    return head + "".join(f"theorem t{k} (a b : ℤ) (h : a = b) : (a - {k}) ^ 2 = b ^ 2 - 2 * {k} * b + {k} ^ 2 := by ring\n" for k in range(count))
+
+def declarations(count):
+    return "".join(f"variable (x{k} : ℤ) (h{k} : x{k} = {k})\n" for k in range(count))
+
+def faults(size):
+    line = "example (a : ℤ) : a + b = b + a := by ring\n"
+    return line * (size // len(line.encode()))
+
+def one(text):
+    return f"example : {text} = 1 := by ring\n"
+
+nested = {
+    "minuses": one("- " * 4084 + "(1 : ℤ)"),
+    "powers": one("2 ^ " * 2044 + "2"),
+    "sums": one("2" + " + 2" * 2044),
+    "parentheses": one("(" * 256 + "2" + " + 2)" * 256),
+}
+
+def run(text):
+    """Processor seconds and peak memory (MiB) of one run in a process of its own."""
+    with open(path, "w") as file:
+        file.write(text)
+    process = subprocess.Popen([program, "prove", path], stdout=subprocess.DEVNULL)
+    _, status, usage = os.wait4(process.pid, 0)
+    assert os.waitstatus_to_exitcode(status) in (0, 1), "the program failed"
+    return usage.ru_utime + usage.ru_stime, usage.ru_maxrss / 1024
+
+print(f"{'commands':<14} {'size':>9} {'run':>4} {'seconds':>8} {'MiB':>7}")
+
+def median(kind, size, text):
+    results = [run(text) for _ in range(3)]
+    for number, (seconds, memory) in enumerate(results, 1):
+        print(f"{kind:<14} {size:>9} {number:>4} {seconds:>8.3f} {memory:>7.1f}")
+    return sorted(results)[1][0]
+
+for kind, make, sizes in (
+    ("theorems", theorems, (1_000, 10_000, 100_000)),
+    ("declarations", declarations, (1_000, 10_000, 100_000)),
+    ("faults", faults, (16 * 2**20 // 10, 16 * 2**20)),
+):
+    medians = [median(kind, size, make(size)) for size in sizes]
+    for few, many, short, long in zip(sizes, sizes[1:], medians, medians[1:]):
+        print(f"{kind}, {few} to {many}: time x {long / max(short, 0.001):.1f}")
+for kind, text in nested.items():
+    median(kind, 1, text)
+PY

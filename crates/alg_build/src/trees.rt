@@ -1,0 +1,66 @@
+ghost use Rattle.std.specs.Prelude.{◌≡◌, IfOk};
+ghost use Rattle.alg_expr.specs.Ids.{statement_of, IsStatementIn};
+ghost use Rattle.alg_build.specs.Book.{KeepsLines};
+ghost use Rattle.alg_build.specs.Combos.{part_of, parts_of, IsPartIn, ArePartsIn};
+
+use crate::builder::Builder;
+use alg_expr::{Arena, Items, Memory, Stmt};
+use alg_law::{Combo, ComboStep};
+
+impl Builder {
+    /// Copies a statement of another arena.
+    pub fn import(&mut self, from: &Arena, s: Stmt) -> Result<Stmt, Memory>
+        requires { IsStatementIn from.now s }
+        ensures here { IfOk result (λ t. IsStatementIn self.new.trees t) }
+        ensures statement { IfOk result (λ t. statement_of self.new.trees t ≡ statement_of from.now s) }
+        ensures keeps { KeepsLines self.old self.new }
+    {
+        let lhs = self.copy(from, s.lhs)?;
+        let rhs = self.copy(from, s.rhs)?;
+        Ok(Stmt {
+            rel: s.rel,
+            sort: s.sort,
+            lhs,
+            rhs,
+        })
+    }
+
+    /// Copies a combination with its expressions, which are of another arena.
+    pub fn import_combo(&mut self, from: &Arena, c: &Combo) -> Result<Combo, Memory>
+        requires { ArePartsIn from.now c.now.steps }
+        ensures here { IfOk result (λ d. ArePartsIn self.new.trees d.steps) }
+        ensures parts { IfOk result (λ d. parts_of self.new.trees d.steps ≡ parts_of from.now c.now.steps) }
+        ensures keeps { KeepsLines self.old self.new }
+    {
+        let steps = self.copy_parts(from, c.steps.as_slice())?;
+        Ok(Combo {
+            steps: Items::of(steps),
+        })
+    }
+
+    fn copy_parts(&mut self, from: &Arena, steps: &[ComboStep]) -> Result<Vec<ComboStep>, Memory>
+        requires { ArePartsIn from.now steps.now }
+        ensures here { IfOk result (λ v. ArePartsIn self.new.trees v.items) }
+        ensures parts { IfOk result (λ v. parts_of self.new.trees v.items ≡ parts_of from.now steps.now) }
+        ensures keeps { KeepsLines self.old self.new }
+    {
+        let mut copies: Vec<ComboStep> = Vec::new(self.alloc());
+        for step in steps {
+            let copy = self.copy_part(from, *step)?;
+            copies.push(copy)?;
+        }
+        Ok(copies)
+    }
+
+    fn copy_part(&mut self, from: &Arena, step: ComboStep) -> Result<ComboStep, Memory>
+        requires { IsPartIn from.now step }
+        ensures here { IfOk result (λ d. IsPartIn self.new.trees d) }
+        ensures part { IfOk result (λ d. part_of self.new.trees d ≡ part_of from.now step) }
+        ensures keeps { KeepsLines self.old self.new }
+    {
+        match step {
+            ComboStep::Expr(e) => Ok(ComboStep::Expr(self.copy(from, e)?)),
+            other => Ok(other),
+        }
+    }
+}

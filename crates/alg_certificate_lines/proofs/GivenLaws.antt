@@ -1,0 +1,103 @@
+-- What a given line is read as.
+use Rattle.std.proofs.Common.{◌≡◌, ℕ, Bool, true, false, ◌&&◌, List, [], ◌∷◌, ◌++◌, All, Option, Some, None, Result, Ok, Err, IfOk, codes, refl, sym, ap, subst, ◌∙◌, if◌then◌else◌}
+use Rattle.std.proofs.lemmas.Bool.{and_parts, both_ways}
+use Rattle.std.proofs.lemmas.Option.{none-some}
+use Rattle.alg_terms.specs.declared.sorts.Sort.{Sort}
+use Rattle.alg_terms.specs.declared.relations.Rel.{Rel}
+use Rattle.alg_terms.specs.declared.relations.Rel.TheVariants as rel
+use Rattle.alg_terms.specs.Tree.{Tree, Trees, Statement}
+use Rattle.alg_expr.specs.declared.ids.ExprId.{ExprId}
+use Rattle.alg_expr.specs.declared.ids.Stmt.{Stmt}
+use Rattle.alg_expr.specs.Ids.{IsIn, IsStatementIn, trees_at}
+use Rattle.alg_law.specs.Declarations.{Declaration}
+use Rattle.alg_certificate.specs.NumberLaws.{some_is}
+use Rattle.alg_certificate.specs.LexingLaws.{front_is, behind_is}
+use Rattle.alg_certificate.specs.Wordlike.{sort_word}
+use Rattle.alg_certificate.specs.Cutting.{after}
+use Rattle.alg_certificate.specs.Tokens.{is_word, all_word, begins_word, is_some_word, front, behind, first_word}
+use Rattle.alg_certificate.specs.Words.{sort_bytes, relation_bytes}
+use Rattle.alg_certificate.specs.Spelling.{SortFits, StatementHasSpelling, given_bytes, bytes, spell_all}
+use Rattle.alg_certificate_lines.specs.declared.faults.LineFault.{LineFault}
+use Rattle.alg_certificate_lines.specs.declared.faults.LineFault.TheVariants as fault
+use Rattle.alg_certificate_lines.specs.Kept.{kept_sort}
+use Rattle.alg_certificate_lines.specs.Words.{sort_named, relation_named}
+use Rattle.alg_certificate_lines.specs.Known.{has_sort, all_known}
+use Rattle.alg_certificate_lines.specs.Typed.{typed_all}
+use Rattle.alg_certificate_lines.specs.Adding.{ReadsTrees}
+use Rattle.alg_certificate_lines.specs.Given.{Read, sides, over_sides, over_typed, given_read, Gives, Cut, with_relation_word, with_relation, behind_relation, with_sort_word, given_cut}
+use Rattle.alg_certificate_lines.proofs.Naming.{sort_is, relation_is}
+use Rattle.alg_certificate_lines.proofs.TakingLaws.{sort_kept}
+
+-- the line is cut where its words end
+begins_front : (w rest : List ℕ) → is_some_word w ≡ true → begins_word (w ++ rest) ≡ true
+begins_front [] rest e = cc
+begins_front (c ∷ cs) rest e = (and_parts _ _ e).0
+
+pub cut_first : (w rest : List ℕ) → is_some_word w ≡ true → begins_word rest ≡ false → first_word (w ++ rest) ≡ Some (w, rest)
+cut_first w rest good e =
+    let all = (and_parts _ _ good).1 in
+    rw (begins_front w rest good, front_is w rest all e, behind_is w rest all e) refl
+
+pub relation_word : (r : Rel) → is_some_word (relation_bytes r) ≡ true
+relation_word rel.Eq = refl
+relation_word rel.Ne = refl
+relation_word rel.Lt = refl
+relation_word rel.Le = refl
+relation_word rel.Dvd = refl
+
+cut_at : (r : Rel) (s : Sort) (more : List ℕ) → SortFits s → begins_word more ≡ false → given_cut (codes "given " ++ (relation_bytes r ++ 32 ∷ (sort_bytes s ++ more))) ≡ Some (r, sort_bytes s, more)
+cut_at r s more f e =
+    ap with_relation_word (cut_first (relation_bytes r) (32 ∷ (sort_bytes s ++ more)) (relation_word r) refl)
+    ∙ (ap (λ o. with_relation o (32 ∷ (sort_bytes s ++ more))) (relation_is r)
+    ∙ ap (with_sort_word r) (cut_first (sort_bytes s) more (sort_word s f) e))
+
+pub cut_is : (s : Statement) → StatementHasSpelling s → given_cut (given_bytes s) ≡ Some (s.rel, sort_bytes s.sort, bytes (spell_all (sides s)))
+cut_is s f = cut_at s.rel s.sort (bytes (spell_all (sides s))) f.0 refl
+
+-- the first question
+has_named : (ds : List Declaration) (s : Sort) (w : List ℕ) → SortFits s → sort_bytes s ≡ w → has_sort ds (sort_named w) ≡ has_sort ds (kept_sort s)
+has_named ds s w f e = ap (λ x. has_sort ds (sort_named x)) (sym e) ∙ ap (has_sort ds) (sort_is s f)
+
+asked : (ds : List Declaration) (s : Statement) (b c : Bool) → has_sort ds (kept_sort s.sort) ≡ b → all_known ds (sides s) ≡ c → given_read ds s ≡ (if◌then◌else◌ {A = Read} (b && c) (over_typed ds s.rel s.sort (typed_all ds (sides s))) (Err fault.BadName))
+asked ds s b c d e = ap (λ x. if◌then◌else◌ {A = Read} (x && all_known ds (sides s)) (over_typed ds s.rel s.sort (typed_all ds (sides s))) (Err fault.BadName)) d ∙ ap (λ x. if◌then◌else◌ {A = Read} (b && x) (over_typed ds s.rel s.sort (typed_all ds (sides s))) (Err fault.BadName)) e
+
+pub given_unsorted : (ds : List Declaration) (s : Statement) (w : List ℕ) → StatementHasSpelling s → sort_bytes s.sort ≡ w → has_sort ds (sort_named w) ≡ false → given_read ds s ≡ Err fault.BadName
+given_unsorted ds s w f e d = asked ds s false _ (sym (has_named ds s.sort w f.0 e) ∙ d) refl
+
+same_sort : (ds : List Declaration) (s k : Sort) (w : List ℕ) → SortFits s → sort_bytes s ≡ w → has_sort ds (sort_named w) ≡ true → Some k ≡ sort_named w → k ≡ s
+same_sort ds s k w f e d n =
+    let kept : sort_named w ≡ kept_sort s = ap sort_named (sym e) ∙ sort_is s f in
+    some_is k s (n ∙ (kept ∙ sort_kept ds s (kept_sort s) refl (sym (has_named ds s w f e) ∙ d)))
+
+-- the trees were read
+pub given_there : (ds : List Declaration) (new : List Tree) (s : Statement) (r : Rel) (k : Sort) (w : List ℕ) (es : List ExprId) (x : Result Stmt LineFault) → StatementHasSpelling s → r ≡ s.rel → sort_bytes s.sort ≡ w → has_sort ds (sort_named w) ≡ true → Some k ≡ sort_named w
+    → ReadsTrees ds new (sides s) (Ok es) → Gives new (over_sides ds r k (trees_at new es)) x → Gives new (given_read ds s) x
+given_there ds new s r k w es x f d e h n t g =
+    let same : k ≡ s.sort = same_sort ds s.sort k w f.0 e h n in
+    let read : given_read ds s ≡ over_sides ds r k (trees_at new es) =
+    asked ds s true true (sym (has_named ds s.sort w f.0 e) ∙ h) t.0
+    ∙ (ap (over_typed ds s.rel s.sort) t.2
+    ∙ (ap (λ q. over_sides ds q s.sort (trees_at new es)) (sym d) ∙ ap (λ q. over_sides ds r q (trees_at new es)) (sym same))) in
+    subst (λ o. Gives new o x) (sym read) g
+
+-- the trees have a fault
+pub given_fault : (ds : List Declaration) (new : List Tree) (s : Statement) (w : List ℕ) (f : LineFault) → StatementHasSpelling s → sort_bytes s.sort ≡ w → has_sort ds (sort_named w) ≡ true → ReadsTrees ds new (sides s) (Err f) → Gives new (given_read ds s) (Err f)
+given_fault ds new s w fault.BadName g e h t = asked ds s true false (sym (has_named ds s.sort w g.0 e) ∙ h) t
+given_fault ds new s w fault.BadSort g e h t = asked ds s true true (sym (has_named ds s.sort w g.0 e) ∙ h) t.0 ∙ ap (over_typed ds s.rel s.sort) t.1
+given_fault ds new s w fault.NoInstance g e h t = absurd t
+given_fault ds new s w fault.Memory g e h t = tt
+
+abbrev Parts : Type 0
+Parts = Rel × List ℕ × List ℕ
+
+pub cut_parts : (s : Statement) (text : List ℕ) (r : Rel) (w t : List ℕ) → StatementHasSpelling s → given_bytes s ≡ text → Some (r, w, t) ≡ given_cut text → (r ≡ s.rel) × (sort_bytes s.sort ≡ w) × (bytes (spell_all (sides s)) ≡ t)
+cut_parts s text r w t f e c =
+    let same : ◌≡◌ {A = Parts} (r, w, t) (s.rel, sort_bytes s.sort, bytes (spell_all (sides s))) = some_is _ _ (c ∙ (ap given_cut (sym e) ∙ cut_is s f)) in
+    (ap (λ (x : Parts). x.0) same, sym (ap (λ (x : Parts). x.1) same), sym (ap (λ (x : Parts). x.2) same))
+
+pub no_cut : (s : Statement) (text : List ℕ) → StatementHasSpelling s → given_bytes s ≡ text → None ≡ given_cut text → ⊥
+no_cut s text f e c = none-some _ (c ∙ (ap given_cut (sym e) ∙ cut_is s f))
+
+pub statement_inside : (new : List Tree) (o : Read) (r : Result Stmt LineFault) → Gives new o r → IfOk r (λ x. IsStatementIn new x)
+statement_inside new o (Ok x) h = h.0
+statement_inside new o (Err f) h = tt

@@ -1,0 +1,11 @@
+pub mod Naming
+pub mod KnownLaws
+pub mod TakingLaws
+pub mod NodeLaws
+pub mod GrowthLaws
+pub mod LoopLaws
+pub mod GivenLaws
+pub mod StepLaws
+pub mod ItemLaws
+pub mod LineLaws
+pub mod CutLaws

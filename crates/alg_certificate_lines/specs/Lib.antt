@@ -1,0 +1,11 @@
+pub mod Words
+pub mod Kept
+pub mod Known
+pub mod Typed
+pub mod Taking
+pub mod Adding
+pub mod Given
+pub mod Following
+pub mod Steps
+pub mod Kinds
+pub mod Texts

@@ -1,0 +1,277 @@
+ghost use Rattle.std.specs.Prelude.{◌≡◌, MatchOption, IfOk, ◌<◌, ◌≤◌, ◌^◌, ◌++◌, ◌∷◌, [], ℕ, List, All, OnOk, Option, Some, length, take, drop};
+ghost use Rattle.alg_terms.specs.Tree.{Tree, Trees};
+ghost use Rattle.alg_certificate.specs.Spelling.{Item, bytes, spell_all, spell_items, TreesFit};
+ghost use Rattle.alg_expr.specs.Applying.{sorts_at};
+ghost use Rattle.alg_expr.specs.Arena.{Extends};
+ghost use Rattle.alg_expr.specs.Ids.{IsIn, tree_of, trees_at};
+ghost use Rattle.alg_proof.specs.Steps.{same_sort, value_sort};
+ghost use Rattle.alg_certificate_lines.specs.Typed.{is_same};
+ghost use Rattle.alg_certificate.specs.Numbers.{max_number};
+ghost use Rattle.alg_certificate.specs.Seen.{seen};
+ghost use Rattle.alg_certificate.specs.Tokens.{Good};
+ghost use Rattle.alg_certificate.specs.Lexed.{tokens};
+ghost use Rattle.alg_certificate_lines.specs.Words.{sort_named, symbol_named};
+ghost use Rattle.alg_certificate_lines.specs.Known.{variable_sort};
+ghost use Rattle.alg_certificate_lines.specs.Typed.{is_sorted, node_of, variable_of_sort};
+ghost use Rattle.alg_certificate_lines.specs.Taking.{literal_in, with_tree, opening, closing, taken, all_taken, newest};
+ghost use Rattle.alg_certificate_lines.specs.Adding.{Makes, Takes, MakesAll, ReadsTrees, AreWords};
+
+use crate::faults::LineFault;
+use crate::known::{are_known, variable_sort};
+use crate::symbols::symbol_named;
+use crate::words::sort_named;
+use alg_certificate::tokens::{Token, next_token};
+use alg_expr::{Arena, ExprFault, ExprId, Items, Place, Sort, Sym};
+use alg_law::{Base, Mark, mark_for_head};
+
+fn is_same(place: Place) -> bool
+    ensures { result ≡ is_same place }
+{
+    matches!(place, Place::Same)
+}
+
+// The first id, and the rest.
+pub(crate) fn split_ids(ids: &[ExprId]) -> Option<(ExprId, &[ExprId])>
+    ensures { MatchOption result (ids.now ≡ []) (λ x. ids.now ≡ x.0 ∷ x.1.now) }
+{
+    match ids.split_first() {
+        Some((first, rest)) => Some((*first, rest)),
+        None => None,
+    }
+}
+
+// The sort of the first argument that has the sort of the value.
+fn first_same(arena: &Arena, places: &[Place], args: &[ExprId]) -> Option<Sort>
+    requires { All (IsIn arena.now) args.now }
+    ensures { result ≡ same_sort places.now (sorts_at arena.now args.now) }
+{
+    let mut left = args;
+    let mut to_come = places;
+    'places: while let Some((place, more)) = to_come.split_first() {
+        let Some((arg, others)) = split_ids(left) else {
+            return None;
+        };
+        if is_same(*place) {
+            return Some(arena.sort_of(arg));
+        }
+        to_come = more;
+        left = others;
+    }
+    None
+}
+
+// The sort of the value of a symbol over these arguments.
+fn value_of(base: &Base, arena: &Arena, sym: Sym, args: &[ExprId]) -> Option<Sort>
+    requires { All (IsIn arena.now) args.now }
+    ensures { result ≡ value_sort base.now sym (sorts_at arena.now args.now) }
+{
+    match sym {
+        Sym::Apply(k) => match base.function(k) {
+            None => None,
+            Some(f) => Some(f.result),
+        },
+        _ => first_same(arena, sym.places(), args),
+    }
+}
+
+fn is_sorted(mark: Mark) -> bool
+    ensures { result ≡ is_sorted mark }
+{
+    matches!(mark, Mark::Good | Mark::NoInstance)
+}
+
+// The symbol over these trees, where arities and sorts fit.
+fn build_node(
+    arena: &mut Arena,
+    base: &Base,
+    sym: Sym,
+    args: &[ExprId],
+) -> Result<ExprId, LineFault>
+    requires { All (IsIn arena.old) args.now }
+    ensures keeps { Extends arena.old arena.new }
+    ensures makes { Makes arena.new (node_of base.now sym (trees_at arena.old args.now)) result }
+{
+    let Some(sort) = value_of(base, arena, sym, args) else {
+        return Err(LineFault::BadSort);
+    };
+    if !is_sorted(mark_for_head(base, arena, sym, sort, args)) {
+        return Err(LineFault::BadSort);
+    }
+    match arena.app(sym, sort, args) {
+        Ok(id) => Ok(id),
+        Err(ExprFault::Memory) => Err(LineFault::Memory),
+        Err(ExprFault::BadArity) => Err(LineFault::BadSort),
+        Err(ExprFault::BadSort) => Err(LineFault::BadSort),
+    }
+}
+
+fn build_literal(arena: &mut Arena, word: &[u8], value: u128) -> Result<ExprId, LineFault>
+    requires { value < 2 ^ 127 }
+    ensures keeps { Extends arena.old arena.new }
+    ensures makes { Makes arena.new (literal_in (sort_named word.now) value) result }
+{
+    let Some(sort) = sort_named(word) else {
+        return Err(LineFault::BadSort);
+    };
+    match arena.lit(sort, value) {
+        Ok(id) => Ok(id),
+        Err(_) => Err(LineFault::Memory),
+    }
+}
+
+fn build_variable(arena: &mut Arena, base: &Base, number: u128) -> Result<ExprId, LineFault>
+    ensures keeps { Extends arena.old arena.new }
+    ensures makes { Makes arena.new (variable_of_sort number (variable_sort base.now number)) result }
+{
+    let Some(sort) = variable_sort(base, number) else {
+        return Err(LineFault::BadSort);
+    };
+    match arena.var(number as u32, sort) {
+        Ok(id) => Ok(id),
+        Err(_) => Err(LineFault::Memory),
+    }
+}
+
+// Keeps what was built behind the others.
+fn keep(
+    arena: &Arena,
+    built: Result<ExprId, LineFault>,
+    ids: &mut Vec<ExprId>,
+) -> Result<(), LineFault>
+    requires { All (IsIn arena.now) ids.old.items }
+    ensures { (o : Option Tree) (os : List (Sym × ℕ)) → Makes arena.now o built → Takes arena.now ids.new.items os (with_tree (trees_at arena.now ids.old.items) os o) result }
+{
+    match built {
+        Err(fault) => Err(fault),
+        Ok(id) => match ids.push(id) {
+            Ok(()) => Ok(()),
+            Err(_) => Err(LineFault::Memory),
+        },
+    }
+}
+
+// The ids from this number on.
+fn ids_from(ids: &[ExprId], start: usize) -> &[ExprId]
+    requires { start ≤ length ids.now }
+    ensures { result.now ≡ drop start ids.now }
+{
+    let (_, rest) = ids.split_at(start);
+    rest
+}
+
+// Closes the node whose arguments are the trees from this number on.
+fn close_at(
+    arena: &mut Arena,
+    base: &Base,
+    sym: Sym,
+    start: usize,
+    ids: &mut Vec<ExprId>,
+) -> Result<(), LineFault>
+    requires { All (IsIn arena.old) ids.old.items }
+    ensures keeps { Extends arena.old arena.new }
+    ensures takes { (os : List (Sym × ℕ)) → Takes arena.new ids.new.items os (closing base.now (trees_at arena.old ids.old.items) ((sym, start) ∷ os)) result }
+{
+    if start > ids.len() {
+        return Err(LineFault::BadSort);
+    }
+    let built = build_node(arena, base, sym, ids_from(ids.as_slice(), start));
+    ids.truncate(start);
+    keep(arena, built, ids)
+}
+
+fn close_node(
+    arena: &mut Arena,
+    base: &Base,
+    ids: &mut Vec<ExprId>,
+    opened: &mut Vec<(Sym, usize)>,
+) -> Result<(), LineFault>
+    requires { All (IsIn arena.old) ids.old.items }
+    ensures keeps { Extends arena.old arena.new }
+    ensures takes { Takes arena.new ids.new.items (newest opened.new.items) (closing base.now (trees_at arena.old ids.old.items) (newest opened.old.items)) result }
+{
+    let Some((sym, start)) = opened.pop() else {
+        return Err(LineFault::BadSort);
+    };
+    close_at(arena, base, sym, start, ids)
+}
+
+fn open_node(
+    _arena: &Arena,
+    word: &[u8],
+    ids: &[ExprId],
+    opened: &mut Vec<(Sym, usize)>,
+) -> Result<(), LineFault>
+    requires { All (IsIn _arena.now) ids.now }
+    ensures { Takes _arena.now ids.now (newest opened.new.items) (opening (trees_at _arena.now ids.now) (newest opened.old.items) (symbol_named word.now)) result }
+{
+    let Some(sym) = symbol_named(word) else {
+        return Err(LineFault::BadSort);
+    };
+    match opened.push((sym, ids.len())) {
+        Ok(()) => Ok(()),
+        Err(_) => Err(LineFault::Memory),
+    }
+}
+
+// Goes on with a token.
+fn take_token(
+    arena: &mut Arena,
+    base: &Base,
+    token: Token,
+    ids: &mut Vec<ExprId>,
+    opened: &mut Vec<(Sym, usize)>,
+) -> Result<(), LineFault>
+    requires here { All (IsIn arena.old) ids.old.items }
+    requires good { Good (seen token) }
+    ensures keeps { Extends arena.old arena.new }
+    ensures takes { Takes arena.new ids.new.items (newest opened.new.items) (taken base.now (seen token.entry) (trees_at arena.old ids.old.items) (newest opened.old.items)) result }
+{
+    match token {
+        Token::Blank => Ok(()),
+        Token::Semi => Ok(()),
+        Token::Word(_) => Ok(()),
+        Token::Close => close_node(arena, base, ids, opened),
+        Token::Open(word) => open_node(arena, word, ids.as_slice(), opened),
+        Token::Lit(word, value) => {
+            let built = build_literal(arena, word, value);
+            keep(arena, built, ids)
+        }
+        Token::Var(number) => {
+            let built = build_variable(arena, base, number);
+            keep(arena, built, ids)
+        }
+    }
+}
+
+// The trees that the tokens build.
+fn build_trees(arena: &mut Arena, base: &Base, text: &[u8]) -> Result<Items<ExprId>, LineFault>
+    ensures keeps { Extends arena.old arena.new }
+    ensures makes { MakesAll arena.new (all_taken base.now (tokens text.now).0 [] []) result }
+{
+    let mut ids: Vec<ExprId> = Vec::new(arena.alloc());
+    let mut opened: Vec<(Sym, usize)> = Vec::new(arena.alloc());
+    let mut left = text;
+    'tokens: while let Some((token, rest)) = next_token(left) {
+        match take_token(arena, base, token, &mut ids, &mut opened) {
+            Ok(()) => {}
+            Err(fault) => return Err(fault),
+        }
+        left = rest;
+    }
+    Ok(Items::of(ids))
+}
+
+/// Reads trees, each behind a blank, into the arena: with the sorts that the base gives their variables and declared
+/// functions. First all names are looked at, then arities and sorts. The arena only grows, also before a fault. Words
+/// and semicolons behind the trees are passed over.
+pub fn read_trees(arena: &mut Arena, base: &Base, text: &[u8]) -> Result<Items<ExprId>, LineFault>
+    ensures keeps { Extends arena.old arena.new }
+    ensures here { IfOk result (λ es. All (IsIn arena.new) es) }
+    ensures reads { (ts : Trees) → TreesFit ts → bytes (spell_all ts) ≡ text.now → ReadsTrees base.now arena.new ts result }
+    ensures before { (ts : Trees) (is : List Item) → TreesFit ts → AreWords is → bytes (spell_all ts ++ spell_items is) ≡ text.now → ReadsTrees base.now arena.new ts result }
+{
+    if !are_known(base, text) {
+        return Err(LineFault::BadName);
+    }
+    build_trees(arena, base, text)
+}

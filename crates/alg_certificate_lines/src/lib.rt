@@ -1,0 +1,20 @@
+//! What the words of certificate lines name: the way back from their spelling.
+#![tactic(auto)]
+
+pub mod building;
+mod classes;
+pub mod faults;
+mod functions;
+pub mod given;
+mod items;
+mod kinds;
+pub mod known;
+pub mod lines;
+mod lists;
+mod numbers;
+mod one_tree;
+mod rows;
+pub mod symbols;
+#[cfg(test)]
+mod tests;
+pub mod words;

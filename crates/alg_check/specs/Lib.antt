@@ -1,0 +1,13 @@
+pub mod Entries
+pub mod Meant
+pub mod Goals
+pub mod Opened
+pub mod Judging
+pub mod Findings
+pub mod Found
+pub mod Text
+pub mod Written
+pub mod Following
+pub mod Checking
+pub mod Certified
+pub mod GoalLaws

@@ -1,5 +1,0 @@
-pub mod Literals
-pub mod Sums
-pub mod Words
-pub mod Spelling
-pub mod Reading

@@ -1,0 +1,5 @@
+pub mod NamesRead
+pub mod NamesSpelled
+pub mod NewNames
+pub mod Declarable
+pub mod Telling

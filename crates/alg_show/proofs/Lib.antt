@@ -1,0 +1,15 @@
+pub mod ArgumentLemmas
+pub mod Looks
+pub mod Turns
+pub mod Levels
+pub mod Passing
+pub mod Written
+pub mod Fitting
+pub mod Scoped
+pub mod Reading
+pub mod Named
+pub mod Symbols
+pub mod ReadingBackLaws
+pub mod Whole
+pub mod FewestGroups
+pub mod GoalLaws

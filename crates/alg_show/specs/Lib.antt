@@ -1,0 +1,12 @@
+pub mod Notation
+pub mod Names
+pub mod Knowing
+pub mod Unparenthesized
+pub mod Shown
+pub mod Text
+pub mod Tasks
+pub mod Waiting
+pub mod Shows
+pub mod ReadingBack
+pub mod Groups
+pub mod Goals

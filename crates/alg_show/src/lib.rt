@@ -1,0 +1,13 @@
+//! Statements as text, which reads back.
+#![tactic(auto)]
+
+mod knowing;
+mod names;
+mod notation;
+mod printing;
+mod statements;
+mod tasks;
+#[cfg(test)]
+mod tests;
+
+pub use statements::show;

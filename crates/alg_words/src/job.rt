@@ -1,0 +1,88 @@
+ghost use Rattle.std.specs.Prelude.{◌≡◌, IfOk, map, string_bytes, List, ℕ};
+ghost use Rattle.alg_words.specs.Words.{text_in};
+ghost use Rattle.alg_words.specs.Jobs.{job_of, job_seen, job_with, job_in_mode, prove_job, check_job};
+
+use crate::command::{Values, WordsFault, values_of};
+use alg_expr::Memory;
+use std::alloc::Global;
+
+/// What the program is asked to do.
+#[derive(Clone, Copy, Debug, PartialEq, Eq)]
+pub enum Job<'a> {
+    /// The words ask for nothing that there is.
+    Usage,
+    /// To prove the goals of a file, and to write a certificate where a path for it is given.
+    Prove {
+        file: &'a str,
+        cert: Option<&'a str>,
+    },
+    /// To check a certificate for a file.
+    Check {
+        file: &'a str,
+        cert: &'a str,
+    },
+}
+
+fn job_to_prove<'a>(file: &'a str, second: Option<&'a str>, cert: Option<&'a str>) -> Job<'a>
+    ensures { job_seen result ≡ prove_job file.entry.now (text_in second.entry) (text_in cert.entry) }
+{
+    match second {
+        None => Job::Prove { file, cert },
+        Some(_) => Job::Usage,
+    }
+}
+
+fn job_to_check<'a>(file: &'a str, second: Option<&'a str>, cert: Option<&'a str>) -> Job<'a>
+    ensures { job_seen result ≡ check_job file.entry.now (text_in second.entry) (text_in cert.entry) }
+{
+    if cert.is_some() {
+        return Job::Usage;
+    }
+    match second {
+        Some(second) => Job::Check { file, cert: second },
+        None => Job::Usage,
+    }
+}
+
+fn job_in_mode<'a>(
+    mode: &'a str,
+    first: &'a str,
+    second: Option<&'a str>,
+    cert: Option<&'a str>,
+) -> Job<'a>
+    ensures { job_seen result ≡ job_in_mode mode.entry.now first.entry.now (text_in second.entry) (text_in cert.entry) }
+{
+    if mode == "prove" {
+        return job_to_prove(first, second, cert);
+    }
+    if mode == "check" {
+        return job_to_check(first, second, cert);
+    }
+    Job::Usage
+}
+
+fn job_with<'a>(values: Values<'a>) -> Job<'a>
+    ensures { job_seen result ≡ job_with (text_in values.entry.mode) (text_in values.entry.first) (text_in values.entry.second) (text_in values.entry.cert) (text_in values.entry.without) }
+{
+    if values.without.is_some() {
+        return Job::Usage;
+    }
+    match values.mode {
+        Some(mode) => match values.first {
+            Some(first) => job_in_mode(mode, first, values.second, values.cert),
+            None => Job::Usage,
+        },
+        None => Job::Usage,
+    }
+}
+
+/// What the words ask for. They begin with the program's name.
+pub fn read_words<'a>(alloc: Global, words: &'a [String]) -> Result<Job<'a>, Memory>
+    ensures { IfOk result (λ job. job_seen job ≡ job_of (map (λ w. string_bytes w) words.entry.now)) }
+{
+    match values_of(alloc, words) {
+        Ok(values) => Ok(job_with(values)),
+        Err(WordsFault::Refused) => Ok(Job::Usage),
+        Err(WordsFault::Memory) => Err(Memory),
+    }
+}

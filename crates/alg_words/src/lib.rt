@@ -1,0 +1,11 @@
+//! What the words of the command line ask for.
+#![tactic(auto)]
+
+mod command;
+pub mod job;
+
+pub use alg_expr::Memory;
+pub use job::{Job, read_words};
+
+#[cfg(test)]
+mod tests;
