@@ -1,19 +1,24 @@
 #!/usr/bin/env bash
-# Measures certificates: `algebra prove` and `algebra prove --cert` on files of 1,000, 10,000 and 100,000 goals. For
-# each the processor's seconds, the peak memory and the certificate's size of three runs, and how the median grows from
-# one size to the next. A factor of at most 12 for 10 times the goals is linear growth. Run it from anywhere; it builds
-# the program first where that isn't done.
+# Measures certificates: `algebra prove`, `algebra prove --cert` and `algebra check` on files of 1,000, 10,000 and
+# 100,000 goals, and `algebra check` of one entry with as many lines and of one line with as many nested parentheses.
+# For each the processor's seconds and the peak memory of three runs, and how they grow from one size to the next. A
+# factor of at most 12 for 10 times the size is linear growth. Run it from anywhere; it builds the program first where
+# that isn't done.
 set -euo pipefail
 top=$(cd "$(dirname "$0")/.." && pwd)
 work=$(mktemp -d)
 trap 'rm -rf "$work"' EXIT
 "$top/algebra" prove /dev/null >/dev/null
 
-python3 - "$top/crates/algebra/out/algebra" "$work" <<'PY'
-import os, subprocess, sys
+PYTHONPATH="$top/bench" PYTHONDONTWRITEBYTECODE=1 python3 - "$top/crates/algebra/out/algebra" "$work" <<'PY'
+import os, sys
+from measuring import grows, median
 program, work = sys.argv[1:]
-source = os.path.join(work, "file.alg")
-cert = os.path.join(work, "file.cert")
+source, cert = os.path.join(work, "file.alg"), os.path.join(work, "file.cert")
+
+def write(path, text):
+    with open(path, "w") as file:
+        file.write(text)
 
 def goals(count):
     lines = []
@@ -22,27 +27,34 @@ def goals(count):
         lines.append(f"example : {a} * {b} + {c} = {a * b + c} := by norm_num\n")
     return "".join(lines)
 
-def run(*words):
-    """Processor seconds and peak memory (MiB) of one run in a process of its own."""
-    process = subprocess.Popen([program, *words], stdout=subprocess.DEVNULL)
-    _, status, usage = os.wait4(process.pid, 0)
-    assert os.waitstatus_to_exitcode(status) == 0, "the program failed"
-    return usage.ru_utime + usage.ru_stime, usage.ru_maxrss / 1024
+def entry(*lines):
+    return "".join(f"{line}\n" for line in ("algebra-cert 1", "goal 1", *lines, "end"))
 
-print(f"{'words':<14} {'goals':>7} {'run':>4} {'seconds':>8} {'MiB':>7} {'bytes':>10}")
-for kind, words in (("prove", ()), ("prove --cert", ("--cert", cert))):
-    before = None
-    for count in (1_000, 10_000, 100_000):
-        with open(source, "w") as file:
-            file.write(goals(count))
-        results = []
-        for number in range(1, 4):
-            seconds, memory = run("prove", source, *words)
-            size = os.path.getsize(cert) if words else 0
-            print(f"{kind:<14} {count:>7} {number:>4} {seconds:>8.3f} {memory:>7.1f} {size:>10}")
-            results.append(seconds)
-        median = sorted(results)[1]
-        if before:
-            print(f"{kind:<14} {count:>7} goals take {median / before:.1f} times the time of a tenth of them")
-        before = median
+print(f"{'words':<14} {'size':>9} {'run':>4} {'seconds':>8} {'MiB':>8}")
+sizes = (1_000, 10_000, 100_000)
+by_kind = {"prove": [], "prove --cert": [], "check": []}
+for count in sizes:
+    write(source, goals(count))
+    by_kind["prove"].append(median("prove", count, program, "prove", source))
+    by_kind["prove --cert"].append(median("prove --cert", count, program, "prove", source, "--cert", cert))
+    by_kind["check"].append(median("check", count, program, "check", source, cert))
+    print(f"{count} goals: file {os.path.getsize(source)} bytes, certificate {os.path.getsize(cert)} bytes")
+for kind, medians in by_kind.items():
+    grows(kind, sizes, medians)
+for count, (proved, _), (written, _), (checked, _) in zip(sizes, *by_kind.values()):
+    print(f"{count} goals: check takes {checked / proved:.2f} times as long as prove, {checked / written:.2f} times as prove --cert")
+
+# one entry of many lines, each with a tree of its own, and one line on one deep tree
+write(source, "example (a : ℤ) : a = a := by ring1\n")
+sizes = (1_000, 10_000, 100_000, 1_000_000)
+medians = []
+for count in sizes:
+    write(cert, entry(*(f"refl (add $0 #Z:{k})" for k in range(count - 1)), "refl $0"))
+    medians.append(median("many lines", count, program, "check", source, cert))
+grows("many lines", sizes, medians)
+medians = []
+for count in sizes:
+    write(cert, entry("refl " + "(neg " * count + "$0" + ")" * count))
+    medians.append(median("one deep line", count, program, "check", source, cert, codes=(1,)))
+grows("one deep line", sizes, medians)
 PY

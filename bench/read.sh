@@ -10,8 +10,9 @@ work=$(mktemp -d)
 trap 'rm -rf "$work"' EXIT
 "$top/algebra" prove /dev/null >/dev/null
 
-python3 - "$top/crates/algebra/out/algebra" "$work" <<'PY'
-import os, subprocess, sys
+PYTHONPATH="$top/bench" PYTHONDONTWRITEBYTECODE=1 python3 - "$top/crates/algebra/out/algebra" "$work" <<'PY'
+import os, sys
+from measuring import grows, median
 program, work = sys.argv[1:]
 path = os.path.join(work, "file.alg")
 
@@ -36,31 +37,18 @@ nested = {
     "parentheses": one("(" * 256 + "2" + " + 2)" * 256),
 }
 
-def run(text):
-    """Processor seconds and peak memory (MiB) of one run in a process of its own."""
+def measured(kind, size, text):
     with open(path, "w") as file:
         file.write(text)
-    process = subprocess.Popen([program, "prove", path], stdout=subprocess.DEVNULL)
-    _, status, usage = os.wait4(process.pid, 0)
-    assert os.waitstatus_to_exitcode(status) in (0, 1), "the program failed"
-    return usage.ru_utime + usage.ru_stime, usage.ru_maxrss / 1024
+    return median(kind, size, program, "prove", path, codes=(0, 1))
 
-print(f"{'commands':<14} {'size':>9} {'run':>4} {'seconds':>8} {'MiB':>7}")
-
-def median(kind, size, text):
-    results = [run(text) for _ in range(3)]
-    for number, (seconds, memory) in enumerate(results, 1):
-        print(f"{kind:<14} {size:>9} {number:>4} {seconds:>8.3f} {memory:>7.1f}")
-    return sorted(results)[1][0]
-
+print(f"{'commands':<14} {'size':>9} {'run':>4} {'seconds':>8} {'MiB':>8}")
 for kind, make, sizes in (
     ("theorems", theorems, (1_000, 10_000, 100_000)),
     ("declarations", declarations, (1_000, 10_000, 100_000)),
     ("faults", faults, (16 * 2**20 // 10, 16 * 2**20)),
 ):
-    medians = [median(kind, size, make(size)) for size in sizes]
-    for few, many, short, long in zip(sizes, sizes[1:], medians, medians[1:]):
-        print(f"{kind}, {few} to {many}: time x {long / max(short, 0.001):.1f}")
+    grows(kind, sizes, [measured(kind, size, make(size)) for size in sizes])
 for kind, text in nested.items():
-    median(kind, 1, text)
+    measured(kind, 1, text)
 PY

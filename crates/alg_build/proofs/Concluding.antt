@@ -1,5 +1,5 @@
 -- What stands at a line, and that the lines of a builder are good.
-use Rattle.std.proofs.Common.{◌≡◌, ℕ, zero, suc, ◌-◌, ◌<◌, ◌≤◌, List, [], ◌∷◌, ◌++◌, length, get_or, take, refl, ap, sym, ◌∙◌, subst, arith, All, Ok, Err, Some, None, Option}
+use Rattle.std.proofs.Common.{◌≡◌, ℕ, zero, suc, ◌-◌, ◌<◌, ◌≤◌, List, [], ◌∷◌, ◌++◌, length, get_or, take, refl, ap, sym, ◌∙◌, subst, arith, Ok, Err, Some, None, Option}
 use Rattle.std.specs.Prelude.{Result, IfOk, OnErr, IsSome, slice_get}
 use Rattle.std.specs.Option.{option_map}
 use Rattle.std.specs.List.{take-map}
@@ -16,16 +16,13 @@ use Rattle.alg_expr.specs.Arena.{Extends-then, tree_of-extends}
 use Rattle.alg_expr.specs.declared.memory.Memory.{Memory}
 use Rattle.alg_proof.specs.declared.lines.Line.{Line}
 use Rattle.alg_terms.specs.declared.causes.BadCause.{BadCause}
-use Rattle.alg_law.specs.declared.marks.Mark.TheVariants.{Good}
-use Rattle.alg_law.specs.WellSorted.{head_mark, sorts_of}
 use Rattle.alg_law.specs.Derivations.{related}
 use Rattle.alg_proof.specs.Lines.{step_of, IsLineIn}
-use Rattle.alg_proof.specs.Steps.{Theory, Step, Trans, Cong, Subst, conclude}
-use Rattle.alg_build.specs.Good.{IsGood, Leads}
+use Rattle.alg_proof.specs.Steps.{Theory, Step, Trans, Subst, conclude}
+use Rattle.alg_build.specs.Good.{Leads}
 use Rattle.alg_build.proofs.Growing.{step_of-extends}
-use Rattle.alg_build.proofs.Fitting.{cong_good}
 use Rattle.alg_proof.specs.Causes.{line_at}
-use Rattle.alg_build.specs.Book.{Book, fact, stated, left_at, right_at, lefts_at, rights_at, IsThere, IsEquation, KeepsLines, Adds, Makes}
+use Rattle.alg_build.specs.Book.{Book, fact, stated, left_at, right_at, IsThere, IsEquation, KeepsLines, Adds, Makes}
 use Rattle.alg_law.specs.WellSorted.{IsStatement}
 use Rattle.alg_build.specs.Inside.{Held, book_of}
 
@@ -105,7 +102,7 @@ operation_line a b c d g sort x y m n (Err e) p q s = tt
 
 -- a line after new trees
 
-adds_after : (a b c : Book) (n : ℕ) (l : Step) (s t : Statement) → KeepsLines a b → Adds b c n l s → s ≡ t → Adds a c n l t
+pub adds_after : (a b c : Book) (n : ℕ) (l : Step) (s t : Statement) → KeepsLines a b → Adds b c n l s → s ≡ t → Adds a c n l t
 adds_after a b c n l s t k p e = record {
   theory = p.theory ∙ k.theory;
   trees = Extends-then a.trees b.trees c.trees k.trees p.trees;
@@ -162,13 +159,3 @@ subst_line b i j k x y z s p q r m n h e f g is =
     subst_good b.theory b.done i j k (fact b i) (right_at b j) (right_at b k) (fact-there b i p)
     (q.line ∙ ap (λ t. Some (equal t (right_at b j))) m) (r.line ∙ ap (λ t. Some (equal t (right_at b k))) n) h.left_sort h.right_sort
     ∙ ap Ok (sym (is ∙ (λ o. related (e o).rel (e o).sort (f o).rhs (g o).rhs)))
-
--- a congruence
-
-pub cong_is_good : (b : Book) (f : Sym) (is ns : List ℕ) → All (IsEquation b) is → (s : Sort) × (head_mark b.theory.declarations f s (sorts_of (lefts_at b is)) ≡ Good) → ns ≡ is → IsGood b (Cong f ns)
-cong_is_good b f is ns h p e = rw (e, cong_good b f p.0 is h p.1) refl
-
-pub cong_adds : (a c : Book) (f : Sym) (is ns : List ℕ) (r : Result ℕ Memory) → All (IsEquation a) is → ns ≡ is → IfOk r (λ n. (t : Statement) → Leads a (Cong f ns) t → Adds a c n (Cong f ns) t)
-    → IfOk r (λ n. (s : Sort) → head_mark a.theory.declarations f s (sorts_of (lefts_at a is)) ≡ Good → Adds a c n (Cong f is) (equal (App f s (lefts_at a is)) (App f s (rights_at a is))))
-cong_adds a c f is ns (Err m) h e p = tt
-cong_adds a c f is ns (Ok n) h e p = λ s g. (rw e at p) (equal (App f s (lefts_at a is)) (App f s (rights_at a is))) (cong_good a f s is h g)

@@ -6,3 +6,5 @@ pub mod AtomLemmas
 pub mod Copying
 pub mod Leading
 pub mod Scaling
+pub mod CongruenceLemmas
+pub mod TestLemmas

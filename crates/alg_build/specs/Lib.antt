@@ -7,3 +7,4 @@ pub mod Inside
 pub mod Accepting
 pub mod Backs
 pub mod Combos
+pub mod Sides

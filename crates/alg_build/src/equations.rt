@@ -15,7 +15,7 @@ use alg_expr::{ExprId, Memory, Rel, Sort, Stmt, Sym};
 use alg_proof::Line;
 
 impl Builder {
-    fn equation(&self, lhs: ExprId, rhs: ExprId) -> Stmt
+    pub(crate) fn equation(&self, lhs: ExprId, rhs: ExprId) -> Stmt
         requires left { IsIn self.now.trees lhs }
         requires right { IsIn self.now.trees rhs }
         ensures here { IsStatementIn self.now.trees result }

@@ -3,9 +3,11 @@
 
 pub mod backs;
 pub mod builder;
+mod congruence;
 pub mod equations;
 pub mod outcome;
 pub mod rows;
+mod sorts;
 pub mod trees;
 
 pub use alg_expr::Memory;

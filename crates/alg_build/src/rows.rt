@@ -14,6 +14,7 @@ use crate::builder::Builder;
 use alg_expr::{ExprId, Items, Memory, Sort, Sym};
 use alg_law::Law;
 use alg_proof::{LemmaRow, Line, RowName};
+use smallvec::SmallVec;
 use std::alloc::Global;
 
 impl Builder {
@@ -41,7 +42,8 @@ impl Builder {
         ensures err { OnErr result (KeepsLines self.old self.new) }
     {
         let numbers = numbers_of(self.alloc(), parts)?;
-        self.line(Line::Cong(sym, numbers))
+        let s = self.over_sides(sym, parts)?;
+        self.add(Line::Cong(sym, numbers), s)
     }
 
     /// The conclusion of a law at a sort, for these trees in the order of its letters, from lines that are its
@@ -96,12 +98,13 @@ fn copies_of(alloc: Global, with: &[ExprId]) -> Result<Items<ExprId>, Memory>
     Ok(Items::of(with.to_vec(alloc)?))
 }
 
+// These numbers as a list of a line: they are gathered in place, so that a short list is allocated once, at its size.
 fn numbers_of(alloc: Global, parts: &[usize]) -> Result<Items<u128>, Memory>
     ensures { IfOk result (λ ns. ns ≡ parts.now) }
 {
-    let mut numbers: Vec<u128> = Vec::new(alloc);
+    let mut numbers: SmallVec<u128, 4> = SmallVec::new(alloc);
     for i in parts {
         numbers.push(*i as u128)?;
     }
-    Ok(Items::of(numbers))
+    Ok(Items::of(numbers.into_vec()?))
 }

@@ -1,23 +1,14 @@
 -- How a line is cut off.
-use Rattle.std.proofs.Common.{◌≡◌, ◌≢◌, ℕ, ◌+◌, List, [], ◌∷◌, ◌++◌, length, take, refl, sym, ap, ◌∙◌, arith, append_assoc, append-nil, take_at, length-append, ne_eqb}
+use Rattle.std.proofs.Common.{◌≡◌, ◌≢◌, ℕ, ◌+◌, List, [], ◌∷◌, ◌++◌, length, take, refl, sym, ap, ◌∙◌, arith, append_assoc, append-nil, take_at, length-append}
 use Rattle.alg_certificate.specs.Cutting.{cut}
 use Rattle.alg_certificate.specs.Grammar.{HasNoFeed}
+use Rattle.alg_certificate.specs.CuttingLaws.{cut_feed, cut_none}
 
 pub record Passed (all : List ℕ) (count : ℕ) (left : List ℕ) : Type 0 where
   pub line : List ℕ
   pub whole : all ≡ line ++ left
   pub size : count ≡ length line
   pub plain : HasNoFeed line
-
-pub cut_feed : (line rest : List ℕ) → HasNoFeed line → cut (line ++ 10 ∷ rest) ≡ (line ∷ (cut rest).0, (cut rest).1)
-unfolding cut
-cut_feed [] rest p = refl
-cut_feed (c ∷ cs) rest p = rw (ne_eqb c 10 p.0, cut_feed cs rest p.1) refl
-
-pub cut_none : (text : List ℕ) → HasNoFeed text → cut text ≡ ([], text)
-unfolding cut
-cut_none [] p = refl
-cut_none (c ∷ cs) p = rw (ne_eqb c 10 p.0, cut_none cs p.1) refl
 
 plain_push : (cs : List ℕ) (c : ℕ) → HasNoFeed cs → c ≢ 10 → HasNoFeed (cs ++ c ∷ [])
 plain_push [] c p d = (d, tt)

@@ -1,9 +1,9 @@
 -- What is cut off is a line with its line feed.
 use Rattle.std.proofs.Common.{◌≡◌, ◌≢◌, ℕ, Bool, true, false, List, [], ◌∷◌, ◌++◌, ◌==◌, if◌then◌else◌, refl, sym, ap, subst, ◌∙◌, eqb-true}
 use Rattle.std.proofs.lemmas.Bool.{eqb-false}
-use Rattle.alg_certificate.specs.Cutting.{Cut, cut, add, into}
+use Rattle.alg_certificate.specs.Cutting.{Cut, cut, into}
 use Rattle.alg_certificate.specs.Grammar.{HasNoFeed}
-use Rattle.alg_certificate.proofs.Cutting.{cut_feed}
+use Rattle.alg_certificate.specs.CuttingLaws.{cut_feed}
 
 pub record CutOff (bytes line : List ℕ) (lines : List (List ℕ)) (tail : List ℕ) : Type 0 where
   pub rest : List ℕ

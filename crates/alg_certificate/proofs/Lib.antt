@@ -3,8 +3,8 @@ pub mod Cutting
 pub mod Walking
 pub mod Steps
 pub mod Pieces
+pub mod Ranges
 pub mod ItemLaws
 pub mod LineLaws
 pub mod Complete
 pub mod Feeds
-pub mod FirstWords

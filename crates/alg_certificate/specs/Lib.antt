@@ -6,6 +6,7 @@ pub mod Lexed
 pub mod Cutting
 pub mod Words
 pub mod Spelling
+pub mod InRange
 pub mod Patterns
 pub mod Walks
 pub mod Reader
@@ -19,3 +20,13 @@ pub mod WordLaws
 pub mod Wordlike
 pub mod Fitting
 pub mod Walkable
+pub mod FirstWords
+pub mod SlotLaws
+pub mod SpelledTexts
+pub mod SlotFitting
+pub mod PlainTexts
+pub mod TextLaws
+pub mod CuttingLaws
+pub mod KindLaws
+pub mod ComingLaws
+pub mod WrittenLines

@@ -196,6 +196,10 @@ slotted [] is m = subst AllSlotted (sym m) tt
 slotted (One s ∷ ps) is m = subst AllSlotted (sym m.2) ((s, m.3), slotted ps m.1 m.4)
 slotted (Many s ∷ ps) is m = subst AllSlotted (sym m.2) (slotted_append s m.0 m.1 m.3 (slotted ps m.1 m.4))
 
+-- the tokens of items that the parts ask for are apart
+pub items_separated : (ps : List Part) (is : List Item) → Matches ps is → Separated (spell_items is)
+items_separated ps is m = items_apart is (slotted ps is m)
+
 of_slot : (s : Slot) (i : Item) → FitsSlot s i → (t : Tree) → i ≡ tree t → TreeFits t
 of_slot s i f t e = let g : FitsSlot s (tree t) = subst (FitsSlot s) e f in g.1
 

@@ -1,9 +1,11 @@
 ghost use Rattle.std.specs.Prelude.{◌≡◌, ◌++◌, ◌<◌, All, OnOk, length, MatchOption, [], ◌∷◌};
+ghost use Rattle.alg_terms.specs.Tree.{of_list};
 ghost use Rattle.alg_expr.specs.Ids.{IsIn, tree_of, trees_at};
 ghost use Rattle.alg_certificate.specs.Spelling.{bytes, spell, spell_items, trees_before};
-ghost use Rattle.alg_certificate.specs.Pending.{pending, rest_of_node, AreInside};
+ghost use Rattle.alg_certificate.specs.InRange.{TreeInRange, TreesInRange};
+ghost use Rattle.alg_certificate.specs.Pending.{pending, rest_of_node, AreInside, AreInRange};
 
-use crate::writing::{put, put_number, put_sort, put_symbol};
+use crate::writing::{put, put_index, put_number, put_sort, put_symbol};
 use alg_expr::{Arena, ExprId, Memory, View};
 
 // Writes a tree up to its first argument, and opens it where it has arguments to come.
@@ -18,17 +20,20 @@ fn begin_tree<'a>(
     ensures written { OnOk result (text.new.items ++ pending arena.now nodes.new.items ≡ text.old.items ++ (bytes (spell (tree_of arena.now id)) ++ pending arena.now nodes.old.items)) }
     ensures grown { OnOk result (length text.old.items < length text.new.items) }
     ensures new_inside { OnOk result (AreInside arena.now nodes.new.items) }
+    ensures in_range { OnOk result (AreInRange arena.now nodes.new.items → TreeInRange (tree_of arena.now id) × AreInRange arena.now nodes.old.items) }
 {
     match arena.view(id) {
         View::Lit { sort, value } => {
             put(text, b"#")?;
             put_sort(text, sort)?;
             put(text, b":")?;
-            put_number(text, value)
+            put_number(text, value)?;
+            Ok(())
         }
         View::Var { decl, .. } => {
             put(text, b"$")?;
-            put_number(text, decl as u128)
+            put_index(text, decl)?;
+            Ok(())
         }
         View::App { sym, args, .. } => {
             put(text, b"(")?;
@@ -61,6 +66,7 @@ fn go_on<'a>(
     ensures written { OnOk result (text.new.items ++ pending arena.now nodes.new.items ≡ text.old.items ++ (rest_of_node arena.now left.now ++ pending arena.now nodes.old.items)) }
     ensures grown { OnOk result (length text.old.items < length text.new.items) }
     ensures new_inside { OnOk result (AreInside arena.now nodes.new.items) }
+    ensures in_range { OnOk result (AreInRange arena.now nodes.new.items → TreesInRange (of_list (trees_at arena.now left.now)) × AreInRange arena.now nodes.old.items) }
 {
     match split_ids(left) {
         None => put(text, b")"),
@@ -76,7 +82,8 @@ fn go_on<'a>(
 // The tree's text.
 pub(crate) fn put_tree(arena: &Arena, id: ExprId, text: &mut Vec<u8>) -> Result<(), Memory>
     requires { IsIn arena.now id }
-    ensures { OnOk result (text.new.items ≡ text.old.items ++ bytes (spell (tree_of arena.now id))) }
+    ensures written { OnOk result (text.new.items ≡ text.old.items ++ bytes (spell (tree_of arena.now id))) }
+    ensures in_range { OnOk result (TreeInRange (tree_of arena.now id)) }
 {
     let mut nodes: Vec<&[ExprId]> = Vec::new(arena.alloc());
     begin_tree(arena, id, &mut nodes, text)?;
@@ -89,7 +96,8 @@ pub(crate) fn put_tree(arena: &Arena, id: ExprId, text: &mut Vec<u8>) -> Result<
 // The trees' texts, each behind a blank.
 pub(crate) fn put_trees(arena: &Arena, ids: &[ExprId], text: &mut Vec<u8>) -> Result<(), Memory>
     requires { All (IsIn arena.now) ids.now }
-    ensures { OnOk result (text.new.items ≡ text.old.items ++ bytes (spell_items (trees_before (trees_at arena.now ids.now) []))) }
+    ensures written { OnOk result (text.new.items ≡ text.old.items ++ bytes (spell_items (trees_before (trees_at arena.now ids.now) []))) }
+    ensures in_range { OnOk result (All TreeInRange (trees_at arena.now ids.now)) }
 {
     let mut left = ids;
     'ids: while let Some((id, rest)) = split_ids(left) {

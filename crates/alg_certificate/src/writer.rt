@@ -1,9 +1,11 @@
 ghost use Rattle.std.specs.Prelude.{◌≡◌, ◌++◌, ◌∷◌, ◌≤◌, [], All, OnOk, OnErr, codes, decimal};
 ghost use Rattle.alg_expr.specs.Ids.{IsIn, tree_of, trees_at, statement_of, IsStatementIn};
 ghost use Rattle.alg_proof.specs.Lines.{step_of, IsLineIn};
+ghost use Rattle.alg_proof.specs.Names.{IsName};
 ghost use Rattle.alg_certificate.specs.Numbers.{max_number};
 ghost use Rattle.alg_certificate.specs.Words.{sort_bytes, symbol_bytes, relation_bytes, bridge_bytes, head_bytes};
-ghost use Rattle.alg_certificate.specs.Spelling.{bytes, spell_items, word, tree, semicolon, numbers, numerals, trees_before, step_bytes, given_bytes, goal_bytes};
+ghost use Rattle.alg_certificate.specs.Spelling.{bytes, spell_items, word, tree, semicolon, numbers, numerals, trees_before, step_bytes, given_bytes, goal_bytes, SortFits, SymbolFits, HeadFits};
+ghost use Rattle.alg_certificate.specs.InRange.{TreeInRange, StepInRange, StatementInRange};
 
 use crate::trees::put_trees;
 use crate::writing::{
@@ -25,7 +27,8 @@ fn put_rule(text: &mut Vec<u8>, word: &[u8], ns: &[u128]) -> Result<(), Memory>
 
 // A word behind a blank, and a sort behind another.
 fn put_with_sort(text: &mut Vec<u8>, piece: &[u8], sort: Sort) -> Result<(), Memory>
-    ensures { OnOk result (text.new.items ≡ text.old.items ++ (32 ∷ (piece.now ++ (32 ∷ sort_bytes sort)))) }
+    ensures written { OnOk result (text.new.items ≡ text.old.items ++ (32 ∷ (piece.now ++ (32 ∷ sort_bytes sort)))) }
+    ensures in_range { OnOk result (SortFits sort) }
 {
     put(text, b" ")?;
     put(text, piece)?;
@@ -36,7 +39,8 @@ fn put_with_sort(text: &mut Vec<u8>, piece: &[u8], sort: Sort) -> Result<(), Mem
 
 fn put_refl(arena: &Arena, id: ExprId, text: &mut Vec<u8>) -> Result<(), Memory>
     requires { IsIn arena.now id }
-    ensures { OnOk result (text.new.items ≡ text.old.items ++ (codes "refl" ++ bytes (spell_items (tree (tree_of arena.now id) ∷ [])))) }
+    ensures written { OnOk result (text.new.items ≡ text.old.items ++ (codes "refl" ++ bytes (spell_items (tree (tree_of arena.now id) ∷ [])))) }
+    ensures in_range { OnOk result (TreeInRange (tree_of arena.now id)) }
 {
     put(text, b"refl")?;
     put_trees(arena, &[id], text)?;
@@ -44,7 +48,8 @@ fn put_refl(arena: &Arena, id: ExprId, text: &mut Vec<u8>) -> Result<(), Memory>
 }
 
 fn put_cong(text: &mut Vec<u8>, sym: Sym, ns: &[u128]) -> Result<(), Memory>
-    ensures { OnOk result (text.new.items ≡ text.old.items ++ (codes "cong" ++ bytes (spell_items (word (symbol_bytes sym) ∷ numbers ns.now)))) }
+    ensures written { OnOk result (text.new.items ≡ text.old.items ++ (codes "cong" ++ bytes (spell_items (word (symbol_bytes sym) ∷ numbers ns.now)))) }
+    ensures in_range { OnOk result (SymbolFits sym) }
 {
     put(text, b"cong ")?;
     put_symbol(text, sym)?;
@@ -60,7 +65,8 @@ fn put_instance(
     text: &mut Vec<u8>,
 ) -> Result<(), Memory>
     requires { All (IsIn arena.now) ids.now }
-    ensures { OnOk result (text.new.items ≡ text.old.items ++ bytes (spell_items (trees_before (trees_at arena.now ids.now) (semicolon ∷ numbers from.now)))) }
+    ensures written { OnOk result (text.new.items ≡ text.old.items ++ bytes (spell_items (trees_before (trees_at arena.now ids.now) (semicolon ∷ numbers from.now)))) }
+    ensures in_range { OnOk result (All TreeInRange (trees_at arena.now ids.now)) }
 {
     put_trees(arena, ids, text)?;
     put(text, b" ;")?;
@@ -75,7 +81,8 @@ fn put_literals(
     first: u128,
     second: u128,
 ) -> Result<(), Memory>
-    ensures { OnOk result (text.new.items ≡ text.old.items ++ (head.now ++ bytes (spell_items (word (sort_bytes sort) ∷ numbers (first ∷ second ∷ []))))) }
+    ensures written { OnOk result (text.new.items ≡ text.old.items ++ (head.now ++ bytes (spell_items (word (sort_bytes sort) ∷ numbers (first ∷ second ∷ []))))) }
+    ensures in_range { OnOk result (SortFits sort) }
 {
     put(text, head)?;
     put(text, b" ")?;
@@ -92,7 +99,8 @@ fn put_bridge(
     text: &mut Vec<u8>,
 ) -> Result<(), Memory>
     requires { IsIn arena.now id }
-    ensures { OnOk result (text.new.items ≡ text.old.items ++ (codes "bridge" ++ bytes (spell_items (word (bridge_bytes kind) ∷ word (decimal number) ∷ tree (tree_of arena.now id) ∷ [])))) }
+    ensures written { OnOk result (text.new.items ≡ text.old.items ++ (codes "bridge" ++ bytes (spell_items (word (bridge_bytes kind) ∷ word (decimal number) ∷ tree (tree_of arena.now id) ∷ [])))) }
+    ensures in_range { OnOk result (TreeInRange (tree_of arena.now id)) }
 {
     put(text, b"bridge ")?;
     put(text, bridge_word(kind))?;
@@ -103,7 +111,8 @@ fn put_bridge(
 }
 
 fn put_compute(text: &mut Vec<u8>, head: ComputeHead, sort: Sort, xs: &[i128]) -> Result<(), Memory>
-    ensures { OnOk result (text.new.items ≡ text.old.items ++ (codes "compute" ++ bytes (spell_items (word (head_bytes head) ∷ word (sort_bytes sort) ∷ numerals xs.now)))) }
+    ensures written { OnOk result (text.new.items ≡ text.old.items ++ (codes "compute" ++ bytes (spell_items (word (head_bytes head) ∷ word (sort_bytes sort) ∷ numerals xs.now)))) }
+    ensures in_range { OnOk result (HeadFits head × SortFits sort) }
 {
     put(text, b"compute ")?;
     put_head(text, head)?;
@@ -124,7 +133,8 @@ fn put_row(
     text: &mut Vec<u8>,
 ) -> Result<(), Memory>
     requires { All (IsIn arena.now) ids.now }
-    ensures { OnOk result (text.new.items ≡ text.old.items ++ (head.now ++ bytes (spell_items (word name.now ∷ word (sort_bytes sort) ∷ trees_before (trees_at arena.now ids.now) (semicolon ∷ numbers from.now))))) }
+    ensures written { OnOk result (text.new.items ≡ text.old.items ++ (head.now ++ bytes (spell_items (word name.now ∷ word (sort_bytes sort) ∷ trees_before (trees_at arena.now ids.now) (semicolon ∷ numbers from.now))))) }
+    ensures in_range { OnOk result (IsName name.now × SortFits sort × All TreeInRange (trees_at arena.now ids.now)) }
 {
     put(text, head)?;
     put_with_sort(text, name.as_str().as_bytes(), sort)?;
@@ -139,7 +149,8 @@ fn put_relation(
     first: u128,
     second: u128,
 ) -> Result<(), Memory>
-    ensures { OnOk result (text.new.items ≡ text.old.items ++ (codes "rel" ++ bytes (spell_items (word (relation_bytes rel) ∷ word (sort_bytes sort) ∷ numbers (first ∷ second ∷ []))))) }
+    ensures written { OnOk result (text.new.items ≡ text.old.items ++ (codes "rel" ++ bytes (spell_items (word (relation_bytes rel) ∷ word (sort_bytes sort) ∷ numbers (first ∷ second ∷ []))))) }
+    ensures in_range { OnOk result (SortFits sort) }
 {
     put(text, b"rel")?;
     put_with_sort(text, relation_word(rel), sort)?;
@@ -149,7 +160,8 @@ fn put_relation(
 
 fn put_given(arena: &Arena, stmt: Stmt, text: &mut Vec<u8>) -> Result<(), Memory>
     requires { IsStatementIn arena.now stmt }
-    ensures { OnOk result (text.new.items ≡ text.old.items ++ given_bytes (statement_of arena.now stmt)) }
+    ensures written { OnOk result (text.new.items ≡ text.old.items ++ given_bytes (statement_of arena.now stmt)) }
+    ensures in_range { OnOk result (StatementInRange (statement_of arena.now stmt)) }
 {
     put(text, b"given")?;
     put_with_sort(text, relation_word(stmt.rel), stmt.sort)?;
@@ -159,7 +171,8 @@ fn put_given(arena: &Arena, stmt: Stmt, text: &mut Vec<u8>) -> Result<(), Memory
 
 fn put_line(arena: &Arena, line: &Line, text: &mut Vec<u8>) -> Result<(), Memory>
     requires { IsLineIn arena.now line.now }
-    ensures { OnOk result (text.new.items ≡ text.old.items ++ step_bytes (step_of arena.now line.now)) }
+    ensures written { OnOk result (text.new.items ≡ text.old.items ++ step_bytes (step_of arena.now line.now)) }
+    ensures in_range { OnOk result (StepInRange (step_of arena.now line.now)) }
 {
     match line {
         Line::Refl(id) => put_refl(arena, *id, text),
@@ -195,11 +208,13 @@ fn put_line(arena: &Arena, line: &Line, text: &mut Vec<u8>) -> Result<(), Memory
     }
 }
 
-/// Adds the text of a proof line, without its line feed. Certificates have only numbers up to 2^127 - 1, at least one
+/// Adds the text of a proof line, without its line feed. Its name, its literals and the numbers of its sorts, symbols
+/// and variables are as certificates have them. Beyond that, they have only numbers up to 2^127 - 1, at least one
 /// argument in a node and one item behind `cong` and `compute`. After Memory `out` is as it was.
 pub fn write_line(arena: &Arena, line: &Line, out: &mut Vec<u8>) -> Result<(), Memory>
     requires { IsLineIn arena.now line.now }
     ensures written { OnOk result (out.new.items ≡ out.old.items ++ step_bytes (step_of arena.now line.now)) }
+    ensures in_range { OnOk result (StepInRange (step_of arena.now line.now)) }
     ensures memory { OnErr result (out.new.items ≡ out.old.items) }
 {
     let mut text = Vec::new(arena.alloc());
@@ -212,6 +227,7 @@ pub fn write_line(arena: &Arena, line: &Line, out: &mut Vec<u8>) -> Result<(), M
 pub fn write_given(arena: &Arena, s: Stmt, out: &mut Vec<u8>) -> Result<(), Memory>
     requires { IsStatementIn arena.now s }
     ensures written { OnOk result (out.new.items ≡ out.old.items ++ given_bytes (statement_of arena.now s)) }
+    ensures in_range { OnOk result (StatementInRange (statement_of arena.now s)) }
     ensures memory { OnErr result (out.new.items ≡ out.old.items) }
 {
     let mut text = Vec::new(arena.alloc());

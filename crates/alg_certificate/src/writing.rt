@@ -1,7 +1,7 @@
 ghost use Rattle.std.specs.Prelude.{◌≡◌, ◌++◌, ◌∷◌, true, codes, decimal, OnOk};
 ghost use Rattle.alg_terms.specs.Symbols.{is_built_in};
 ghost use Rattle.alg_certificate.specs.Words.{sort_bytes, symbol_bytes, relation_bytes, bridge_bytes, head_bytes, numeral_bytes};
-ghost use Rattle.alg_certificate.specs.Spelling.{bytes, spell_items, numbers, numerals};
+ghost use Rattle.alg_certificate.specs.Spelling.{bytes, spell_items, numbers, numerals, IsInRange, SortFits, SymbolFits, HeadFits};
 
 use alg_expr::{Memory, Rel, Sort, Sym};
 use alg_proof::{BridgeKind, ComputeHead};
@@ -21,6 +21,14 @@ pub(crate) fn put_number(text: &mut Vec<u8>, number: u128) -> Result<(), Memory>
     put(text, buffer.format(number).as_bytes())
 }
 
+// The number of a sort, a symbol or a variable.
+pub(crate) fn put_index(text: &mut Vec<u8>, index: u32) -> Result<(), Memory>
+    ensures written { OnOk result (text.new.items ≡ text.old.items ++ decimal index) }
+    ensures in_range { OnOk result (IsInRange index) }
+{
+    put_number(text, index as u128)
+}
+
 fn put_numeral(text: &mut Vec<u8>, numeral: i128) -> Result<(), Memory>
     ensures { OnOk result (text.new.items ≡ text.old.items ++ numeral_bytes numeral) }
 {
@@ -29,7 +37,8 @@ fn put_numeral(text: &mut Vec<u8>, numeral: i128) -> Result<(), Memory>
 }
 
 pub(crate) fn put_sort(text: &mut Vec<u8>, sort: Sort) -> Result<(), Memory>
-    ensures { OnOk result (text.new.items ≡ text.old.items ++ sort_bytes sort) }
+    ensures written { OnOk result (text.new.items ≡ text.old.items ++ sort_bytes sort) }
+    ensures in_range { OnOk result (SortFits sort) }
 {
     match sort {
         Sort::Nat => put(text, b"N"),
@@ -37,7 +46,7 @@ pub(crate) fn put_sort(text: &mut Vec<u8>, sort: Sort) -> Result<(), Memory>
         Sort::Rat => put(text, b"Q"),
         Sort::Decl(k) => {
             put(text, b"t")?;
-            put_number(text, k as u128)
+            put_index(text, k)
         }
     }
 }
@@ -73,18 +82,20 @@ fn built_in_word(sym: Sym) -> &'static [u8]
 
 fn put_built_in(text: &mut Vec<u8>, sym: Sym) -> Result<(), Memory>
     requires { is_built_in sym ≡ true }
-    ensures { OnOk result (text.new.items ≡ text.old.items ++ symbol_bytes sym) }
+    ensures written { OnOk result (text.new.items ≡ text.old.items ++ symbol_bytes sym) }
+    ensures in_range { OnOk result (SymbolFits sym) }
 {
     put(text, built_in_word(sym))
 }
 
 pub(crate) fn put_symbol(text: &mut Vec<u8>, sym: Sym) -> Result<(), Memory>
-    ensures { OnOk result (text.new.items ≡ text.old.items ++ symbol_bytes sym) }
+    ensures written { OnOk result (text.new.items ≡ text.old.items ++ symbol_bytes sym) }
+    ensures in_range { OnOk result (SymbolFits sym) }
 {
     match sym {
         Sym::Apply(k) => {
             put(text, b"@")?;
-            put_number(text, k as u128)
+            put_index(text, k)
         }
         _ => put_built_in(text, sym),
     }
@@ -113,7 +124,8 @@ pub(crate) fn bridge_word(kind: BridgeKind) -> &'static [u8]
 }
 
 pub(crate) fn put_head(text: &mut Vec<u8>, head: ComputeHead) -> Result<(), Memory>
-    ensures { OnOk result (text.new.items ≡ text.old.items ++ head_bytes head) }
+    ensures written { OnOk result (text.new.items ≡ text.old.items ++ head_bytes head) }
+    ensures in_range { OnOk result (HeadFits head) }
 {
     match head {
         ComputeHead::Named(sym) => put_symbol(text, sym),

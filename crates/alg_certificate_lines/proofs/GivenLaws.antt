@@ -5,11 +5,14 @@ use Rattle.std.proofs.lemmas.Option.{none-some}
 use Rattle.alg_terms.specs.declared.sorts.Sort.{Sort}
 use Rattle.alg_terms.specs.declared.relations.Rel.{Rel}
 use Rattle.alg_terms.specs.declared.relations.Rel.TheVariants as rel
-use Rattle.alg_terms.specs.Tree.{Tree, Trees, Statement}
-use Rattle.alg_expr.specs.declared.ids.ExprId.{ExprId}
+use Rattle.alg_terms.specs.Tree.{Tree, Trees, Statement, sort_of_tree}
+use Rattle.alg_terms.specs.Order.{sort_same, sort_same-equal}
 use Rattle.alg_expr.specs.declared.ids.Stmt.{Stmt}
-use Rattle.alg_expr.specs.Ids.{IsIn, IsStatementIn, trees_at}
+use Rattle.alg_expr.specs.Ids.{IsIn, IsStatementIn, trees_at, statement_of}
+use Rattle.alg_law.specs.declared.marks.Mark.{Mark}
+use Rattle.alg_law.specs.declared.marks.Mark.TheVariants.{Good, NoInstance, BadSort, BadName}
 use Rattle.alg_law.specs.Declarations.{Declaration}
+use Rattle.alg_law.specs.WellSorted.{mark_of, has_relation, IsStatement}
 use Rattle.alg_certificate.specs.NumberLaws.{some_is}
 use Rattle.alg_certificate.specs.LexingLaws.{front_is, behind_is}
 use Rattle.alg_certificate.specs.Wordlike.{sort_word}
@@ -21,10 +24,10 @@ use Rattle.alg_certificate_lines.specs.declared.faults.LineFault.{LineFault}
 use Rattle.alg_certificate_lines.specs.declared.faults.LineFault.TheVariants as fault
 use Rattle.alg_certificate_lines.specs.Kept.{kept_sort}
 use Rattle.alg_certificate_lines.specs.Words.{sort_named, relation_named}
-use Rattle.alg_certificate_lines.specs.Known.{has_sort, all_known}
+use Rattle.alg_certificate_lines.specs.Known.{is_good, has_sort, all_known}
 use Rattle.alg_certificate_lines.specs.Typed.{typed_all}
-use Rattle.alg_certificate_lines.specs.Adding.{ReadsTrees}
-use Rattle.alg_certificate_lines.specs.Given.{Read, sides, over_sides, over_typed, given_read, Gives, Cut, with_relation_word, with_relation, behind_relation, with_sort_word, given_cut}
+use Rattle.alg_certificate_lines.specs.Adding.{Flagged, ReadsTrees}
+use Rattle.alg_certificate_lines.specs.Given.{Read, sides, classed, sorted, over_sides, over_typed, given_read, Gives, Cut, with_relation_word, with_relation, behind_relation, with_sort_word, given_cut}
 use Rattle.alg_certificate_lines.proofs.Naming.{sort_is, relation_is}
 use Rattle.alg_certificate_lines.proofs.TakingLaws.{sort_kept}
 
@@ -70,9 +73,10 @@ same_sort ds s k w f e d n =
     some_is k s (n ∙ (kept ∙ sort_kept ds s (kept_sort s) refl (sym (has_named ds s w f e) ∙ d)))
 
 -- the trees were read
-pub given_there : (ds : List Declaration) (new : List Tree) (s : Statement) (r : Rel) (k : Sort) (w : List ℕ) (es : List ExprId) (x : Result Stmt LineFault) → StatementHasSpelling s → r ≡ s.rel → sort_bytes s.sort ≡ w → has_sort ds (sort_named w) ≡ true → Some k ≡ sort_named w
-    → ReadsTrees ds new (sides s) (Ok es) → Gives new (over_sides ds r k (trees_at new es)) x → Gives new (given_read ds s) x
-given_there ds new s r k w es x f d e h n t g =
+pub given_there : (ds : List Declaration) (new : List Tree) (s : Statement) (r : Rel) (k : Sort) (w : List ℕ) (p : Flagged) (x : Result Stmt LineFault) → StatementHasSpelling s → r ≡ s.rel → sort_bytes s.sort ≡ w → has_sort ds (sort_named w) ≡ true → Some k ≡ sort_named w
+    → ReadsTrees ds new (sides s) (Ok p) → Gives new (over_sides ds r k (trees_at new p.0)) x → Gives new (given_read ds s) x
+given_there ds new s r k w p x f d e h n t g =
+    let es = p.0 in
     let same : k ≡ s.sort = same_sort ds s.sort k w f.0 e h n in
     let read : given_read ds s ≡ over_sides ds r k (trees_at new es) =
     asked ds s true true (sym (has_named ds s.sort w f.0 e) ∙ h) t.0
@@ -101,3 +105,43 @@ no_cut s text f e c = none-some _ (c ∙ (ap given_cut (sym e) ∙ cut_is s f))
 pub statement_inside : (new : List Tree) (o : Read) (r : Result Stmt LineFault) → Gives new o r → IfOk r (λ x. IsStatementIn new x)
 statement_inside new o (Ok x) h = h.0
 statement_inside new o (Err f) h = tt
+
+-- what is read is a statement of the base
+passed : (b : Bool) (o : Read) (f : LineFault) (x : Statement) → if◌then◌else◌ {A = Read} b o (Err f) ≡ Ok x → (b ≡ true) × (o ≡ Ok x)
+passed true o f x e = (refl, e)
+passed false o f x e = absurd (cc)
+
+ok_is : (s x : Statement) → ◌≡◌ {A = Read} (Ok s) (Ok x) → s ≡ x
+ok_is s x e = cc
+
+good_is : (m : Mark) → is_good m ≡ true → m ≡ Good
+good_is Good e = refl
+good_is NoInstance e = absurd (cc)
+good_is BadSort e = absurd (cc)
+good_is BadName e = absurd (cc)
+
+sorted_is : (ds : List Declaration) (s x : Statement) → sorted ds s ≡ Ok x → IsStatement ds x
+sorted_is ds s x e =
+    let p = passed (sort_same (sort_of_tree s.lhs) s.sort && sort_same (sort_of_tree s.rhs) s.sort) (classed ds s) fault.BadSort x e in
+    let q = passed (is_good (mark_of ds s.lhs) && (is_good (mark_of ds s.rhs) && has_relation ds s.rel s.sort)) (Ok s) fault.NoInstance x p.1 in
+    let same = and_parts (sort_same (sort_of_tree s.lhs) s.sort) (sort_same (sort_of_tree s.rhs) s.sort) p.0 in
+    let left = and_parts (is_good (mark_of ds s.lhs)) (is_good (mark_of ds s.rhs) && has_relation ds s.rel s.sort) q.0 in
+    let right = and_parts (is_good (mark_of ds s.rhs)) (has_relation ds s.rel s.sort) left.1 in
+    subst (IsStatement ds) (ok_is s x q.1)
+    (record {
+      left = good_is (mark_of ds s.lhs) left.0;
+      right = good_is (mark_of ds s.rhs) right.0;
+      left_sort = sort_same-equal (sort_of_tree s.lhs) s.sort same.0;
+      right_sort = sort_same-equal (sort_of_tree s.rhs) s.sort same.1;
+      related = right.1;
+    })
+
+sides_are : (ds : List Declaration) (r : Rel) (k : Sort) (ts : List Tree) (x : Statement) → over_sides ds r k ts ≡ Ok x → IsStatement ds x
+sides_are ds r k [] x e = absurd (cc)
+sides_are ds r k (a ∷ []) x e = absurd (cc)
+sides_are ds r k (a ∷ b ∷ []) x e = sorted_is ds (record { rel = r; sort = k; lhs = a; rhs = b }) x e
+sides_are ds r k (a ∷ b ∷ c ∷ more) x e = absurd (cc)
+
+pub statement_sorted : (ds : List Declaration) (new : List Tree) (r : Rel) (k : Sort) (ts : List Tree) (y : Result Stmt LineFault) → Gives new (over_sides ds r k ts) y → IfOk y (λ x. IsStatement ds (statement_of new x))
+statement_sorted ds new r k ts (Ok x) h = sides_are ds r k ts (statement_of new x) h.1
+statement_sorted ds new r k ts (Err f) h = tt

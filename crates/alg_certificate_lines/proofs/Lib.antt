@@ -3,6 +3,7 @@ pub mod KnownLaws
 pub mod TakingLaws
 pub mod NodeLaws
 pub mod GrowthLaws
+pub mod FlagLaws
 pub mod LoopLaws
 pub mod GivenLaws
 pub mod StepLaws

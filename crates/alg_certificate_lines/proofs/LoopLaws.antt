@@ -17,10 +17,11 @@ use Rattle.alg_certificate_lines.specs.Kept.{kept_symbol, kept_sort}
 use Rattle.alg_certificate_lines.specs.Words.{sort_named, symbol_named}
 use Rattle.alg_certificate_lines.specs.Known.{has_sort, has_symbol, known, all_known, token_known, tokens_known}
 use Rattle.alg_certificate_lines.specs.Typed.{typed_all}
+use Rattle.alg_certificate_lines.specs.Steps.{all_good}
 use Rattle.alg_certificate_lines.specs.declared.faults.LineFault.{LineFault}
 use Rattle.alg_certificate_lines.specs.declared.faults.LineFault.TheVariants as fault
 use Rattle.alg_certificate_lines.specs.Taking.{Opened, Built, taken, go_on, all_taken, newest}
-use Rattle.alg_certificate_lines.specs.Adding.{Takes, MakesAll, ReadsTrees, AreWords}
+use Rattle.alg_certificate_lines.specs.Adding.{Takes, Flagged, MakesAll, ReadsTrees, AreWords}
 use Rattle.alg_certificate_lines.proofs.Naming.{sort_is, symbol_is}
 use Rattle.alg_certificate_lines.proofs.KnownLaws.{known_more, known_end}
 use Rattle.alg_certificate_lines.proofs.TakingLaws.{taken_more, taken_end, then_all, trees_taken}
@@ -54,10 +55,10 @@ taken_over ds old now all left es os h r = h.same ∙ ap (λ (x : Lexed). all_ta
 
 -- a fault of a token is that of the trees
 pub taken_fault : (ds : List Declaration) (old now new : List Tree) (all left : List ℕ) (t : Tok) (rest : List ℕ) (es fs : List ExprId) (os : List (Sym × ℕ)) (ps : Opened) (r : Result (Unit {0}) LineFault) (f : LineFault) → Taken ds old now all left es os → read_token left ≡ Some (t, rest)
-    → r ≡ Err f → Takes new fs ps (taken ds t (trees_at now es) (newest os)) r → MakesAll new (all_taken ds (tokens all).0 [] []) (Err f)
+    → r ≡ Err f → Takes new fs ps (taken ds t (trees_at now es) (newest os)) r → MakesAll ds new (all_taken ds (tokens all).0 [] []) (Err f)
 taken_fault ds old now new all left t rest es fs os ps r f h e d k = by_fault f (subst (Takes new fs ps (taken ds t (trees_at now es) (newest os))) d k)
   where
-    by_fault : (g : LineFault) → Takes new fs ps (taken ds t (trees_at now es) (newest os)) (Err g) → MakesAll new (all_taken ds (tokens all).0 [] []) (Err g)
+    by_fault : (g : LineFault) → Takes new fs ps (taken ds t (trees_at now es) (newest os)) (Err g) → MakesAll ds new (all_taken ds (tokens all).0 [] []) (Err g)
     by_fault fault.BadName x = x
     by_fault fault.BadSort x = h.same ∙ (one_step ds left t rest (trees_at now es) (newest os) e ∙ ap (λ o. go_on o (all_taken ds (tokens rest).0)) x)
     by_fault fault.NoInstance x = x
@@ -138,27 +139,31 @@ built_of ds ts is text f w e k =
     ∙ (ap (λ (x : Lexed). all_taken ds x.0 [] []) (spelled_tokens ts is f w)
     ∙ (trees_taken ds ts (spell_items is) [] [] f k ∙ whole ds is (typed_all ds ts) w))
 
-pub read_before : (ds : List Declaration) (new : List Tree) (ts : Trees) (is : List Item) (text : List ℕ) (r : Result (List ExprId) LineFault) → TreesFit ts → AreWords is → bytes (spell_all ts ++ spell_items is) ≡ text → tokens_known ds (tokens text).0 ≡ true
-    → MakesAll new (all_taken ds (tokens text).0 [] []) r → ReadsTrees ds new ts r
-read_before ds new ts is text r f w e k m = by_result r (subst (λ o. MakesAll new o r) (built_of ds ts is text f w e known_all) m)
+pub read_before : (ds : List Declaration) (new : List Tree) (ts : Trees) (is : List Item) (text : List ℕ) (r : Result Flagged LineFault) → TreesFit ts → AreWords is → bytes (spell_all ts ++ spell_items is) ≡ text → tokens_known ds (tokens text).0 ≡ true
+    → MakesAll ds new (all_taken ds (tokens text).0 [] []) r → ReadsTrees ds new ts r
+read_before ds new ts is text r f w e k m = by_result r (subst (λ o. MakesAll ds new o r) (built_of ds ts is text f w e known_all) m)
   where
     known_all : all_known ds ts ≡ true
     known_all = sym (names_before ds ts is text f w e) ∙ k
 
-    by_result : (x : Result (List ExprId) LineFault) → MakesAll new (typed_all ds ts) x → ReadsTrees ds new ts x
-    by_result (Ok es) h = (known_all, h.0, h.1)
+    by_result : (x : Result Flagged LineFault) → MakesAll ds new (typed_all ds ts) x → ReadsTrees ds new ts x
+    by_result (Ok p) h = (known_all, h.0, h.1)
     by_result (Err fault.BadName) h = absurd h
     by_result (Err fault.BadSort) h = (known_all, h)
     by_result (Err fault.NoInstance) h = h
     by_result (Err fault.Memory) h = known_all
 
-pub read_of : (ds : List Declaration) (new : List Tree) (ts : Trees) (text : List ℕ) (r : Result (List ExprId) LineFault) → TreesFit ts → bytes (spell_all ts) ≡ text → tokens_known ds (tokens text).0 ≡ true → MakesAll new (all_taken ds (tokens text).0 [] []) r → ReadsTrees ds new ts r
+pub read_of : (ds : List Declaration) (new : List Tree) (ts : Trees) (text : List ℕ) (r : Result Flagged LineFault) → TreesFit ts → bytes (spell_all ts) ≡ text → tokens_known ds (tokens text).0 ≡ true → MakesAll ds new (all_taken ds (tokens text).0 [] []) r → ReadsTrees ds new ts r
 read_of ds new ts text r f e k m = read_before ds new ts [] text r f tt (alone ts text e) k m
 
 pub taken_next : (ds : List Declaration) (old now new : List Tree) (all left : List ℕ) (t : Tok) (rest : List ℕ) (es fs : List ExprId) (os ps : List (Sym × ℕ)) (r : Result (Unit {0}) LineFault) (u : Unit {0}) → Taken ds old now all left es os → read_token left ≡ Some (t, rest) → Extends now new
     → r ≡ Ok u → Takes new fs (newest ps) (taken ds t (trees_at now es) (newest os)) r → Taken ds old new all rest fs ps
 taken_next ds old now new all left t rest es fs os ps r u h e x d k = taken_on ds old now new all left t rest es fs os ps h e x (subst (Takes new fs (newest ps) (taken ds t (trees_at now es) (newest os))) d k)
 
-pub ids_inside : (new : List Tree) (o : Option (List Tree)) (r : Result (List ExprId) LineFault) → MakesAll new o r → IfOk r (λ es. All (IsIn new) es)
-ids_inside new o (Ok es) h = h.0
-ids_inside new o (Err f) h = tt
+pub ids_inside : (ds : List Declaration) (new : List Tree) (o : Option (List Tree)) (r : Result Flagged LineFault) → MakesAll ds new o r → IfOk r (λ x. All (IsIn new) x.0)
+ids_inside ds new o (Ok p) h = h.0
+ids_inside ds new o (Err f) h = tt
+
+pub flag_told : (ds : List Declaration) (new : List Tree) (o : Option (List Tree)) (r : Result Flagged LineFault) → MakesAll ds new o r → IfOk r (λ x. x.1 ≡ all_good ds (trees_at new x.0))
+flag_told ds new o (Ok p) h = h.2
+flag_told ds new o (Err f) h = tt

@@ -7,5 +7,9 @@ pub mod Adding
 pub mod Given
 pub mod Following
 pub mod Steps
+pub mod Heads
 pub mod Kinds
 pub mod Texts
+pub mod HeadLaws
+pub mod ReadBackLaws
+pub mod SpellingLaws

@@ -13,6 +13,12 @@ use alg_certificate::tokens::{Token, next_token};
 use alg_expr::{Sort, Sym};
 use alg_law::{Base, Declared, Mark, mark_for_sort};
 
+pub(crate) fn is_good(mark: Mark) -> bool
+    ensures { result ≡ is_good mark }
+{
+    matches!(mark, Mark::Good)
+}
+
 pub(crate) fn has_sort(base: &Base, word: &[u8]) -> bool
     ensures { result ≡ has_sort base.now (sort_named word.now) }
 {

@@ -6,6 +6,7 @@ mod classes;
 pub mod faults;
 mod functions;
 pub mod given;
+mod heads;
 mod items;
 mod kinds;
 pub mod known;

@@ -1,7 +1,8 @@
-ghost use Rattle.std.specs.Prelude.{◌≡◌, IfOk};
+ghost use Rattle.std.specs.Prelude.{◌≡◌, ◌≤◌, ◌^◌, length, IfOk, Ok};
 ghost use Rattle.alg_expr.specs.Arena.{Extends};
+ghost use Rattle.alg_law.specs.declared.marks.Mark.TheVariants.{Good};
 ghost use Rattle.alg_proof.specs.Lines.{IsLineIn};
-ghost use Rattle.alg_proof.specs.Steps.{Step};
+ghost use Rattle.alg_proof.specs.Steps.{Step, step_mark};
 ghost use Rattle.alg_certificate.specs.Spelling.{HasSpelling, step_bytes};
 ghost use Rattle.alg_certificate_lines.specs.Kinds.{Spells};
 ghost use Rattle.alg_certificate_lines.specs.Steps.{step_read, GivesLine};
@@ -44,12 +45,14 @@ fn read_line(arena: &mut Arena, base: &Base, kind: Kind, text: &[u8]) -> Result<
 /// Reads the text of a proof line, as `CertReader` gives it, into the arena, by the first look at a line: at the
 /// sorts, symbols and trees that it names itself. Variables and declared functions have the sorts that the base gives
 /// them. The first cause is looked for in the whole line before the next one: a number that the base hasn't, sorts
-/// that don't fit, a class that is missing. Numbers that stand alone are no trees here. The arena only grows, also
-/// before a fault.
+/// that don't fit, a class that is missing. Numbers that stand alone are no trees here. What `write_line` wrote of a
+/// line whose own sorts, symbols and trees are well sorted is read as that line. The arena only grows, also before a
+/// fault.
 pub fn build_line(arena: &mut Arena, base: &Base, text: &[u8]) -> Result<Line, LineFault>
     ensures keeps { Extends arena.old arena.new }
     ensures here { IfOk result (λ x. IsLineIn arena.new x) }
     ensures gives { (l : Step) → HasSpelling l → step_bytes l ≡ text.now → GivesLine arena.new (step_read base.now l) result }
+    ensures back { (l : Step) → length base.now ≤ 2 ^ 32 → step_mark base.now l ≡ Good → HasSpelling l → step_bytes l ≡ text.now → GivesLine arena.new (Ok l) result }
 {
     match cut_head(text) {
         Some((kind, rest)) => read_line(arena, base, kind, rest),

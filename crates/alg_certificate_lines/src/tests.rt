@@ -6,6 +6,8 @@ use crate::words::{relation_named, sort_named};
 use alg_certificate::{write_given, write_line};
 use alg_expr::{Arena, Memory};
 use alg_law::Base;
+use std::alloc::Global;
+use std::test::Fail;
 
 #[test]
 fn words_name_what_they_spell(rt: HostRuntime) {
@@ -135,5 +137,27 @@ fn each_kind_of_line_is_written_again(rt: HostRuntime) -> Result<(), Memory> {
         write_line(&arena, &line, &mut out)?;
         assert!(rt; out.as_slice() == text.as_bytes(), "{text}");
     }
+    Ok(())
+}
+
+// whether the line of this text is written as it is read
+fn is_written_again(alloc: Global, text: &[u8]) -> Result<bool, Memory> {
+    let mut arena = Arena::new(alloc)?;
+    let base = Base::new(alloc)?;
+    let Ok(line) = build_line(&mut arena, &base, text) else {
+        return Ok(false);
+    };
+    let mut out = Vec::new(alloc);
+    write_line(&arena, &line, &mut out)?;
+    Ok(out.as_slice() == text)
+}
+
+#[test]
+fn a_deep_tree_is_written_again(rt: HostRuntime) -> Result<(), Fail> {
+    let alloc = rt.alloc();
+    let open = "(neg ".repeat(alloc, 1_000_000)?;
+    let close = ")".repeat(alloc, 1_000_000)?;
+    let text = format!(in alloc; "refl {open}#Z:0{close}")?;
+    assert!(rt; is_written_again(alloc, text.as_bytes())?);
     Ok(())
 }

@@ -3,6 +3,7 @@ use Rattle.std.proofs.Common.{◌≡◌, ℕ, List, [], ◌++◌, refl, ap, sym,
 use Rattle.std.specs.Prelude.{Option, Result, OnOk, IsErr}
 use Rattle.std.specs.Option.{option_map}
 use Rattle.alg_host.specs.Host.{Told, Adds, adds_said}
+use Rattle.alg_check.specs.Checking.{SaysOnly}
 
 pub said_nothing : (t : Option Told) → t ≡ option_map (adds_said []) t
 said_nothing None = refl
@@ -48,3 +49,14 @@ stops before whole more t0 t1 s told is bad = (before, (more, is), not_ok s _ ba
 -- all was said
 pub all_said : {U F : Type 0} (before whole : List ℕ) (t0 t1 : Option Told) (s : Result U F) → t1 ≡ option_map (adds_said before) t0 → whole ≡ before → Adds adds_said whole s t0 t1
 all_said before whole t0 t1 s told is = (before, ([], is ∙ sym (append-nil before)), always s _ (sym is), told)
+
+-- whatever was said
+
+pub says_nothing : (t : Option Told) → SaysOnly t t
+says_nothing t = ([], said_nothing t)
+
+pub says_part : {T E : Type 0} (piece : List ℕ) (t0 t1 : Option Told) (r : Result T E) → Adds adds_said piece r t0 t1 → SaysOnly t0 t1
+says_part piece t0 t1 r a = (a.0, a.3)
+
+pub says_then : (t0 t1 t2 : Option Told) → SaysOnly t0 t1 → SaysOnly t1 t2 → SaysOnly t0 t2
+says_then t0 t1 t2 p q = (p.0 ++ q.0, said_then p.0 q.0 t0 t1 t2 p.1 q.1)

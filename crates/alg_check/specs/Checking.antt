@@ -1,5 +1,6 @@
 -- The check of a certificate against the goals of a file.
 use Rattle.std.specs.Prelude.{◌≡◌, ℕ, List, Option, Result, IfOk}
+use Rattle.std.specs.Option.{option_map}
 use Rattle.alg_host.specs.Host.{Told, Adds, adds_said}
 use Rattle.alg_law.specs.Rows.{Row}
 use Rattle.alg_certificate.specs.Reader.{Coming}
@@ -15,3 +16,7 @@ abbrev pub Checks : (List Finding → Option ℕ → List ℕ) → List Row → 
 Checks text rows gs c before now result =
     (es : List Entry) → AreEntriesOf c.lines es
     → Adds adds_said (text (findings rows gs es) c.fault) result before now × IfOk result (λ t. t ≡ tally_of (findings rows gs es) c.fault)
+
+-- whatever the lines are, something was said and nothing else was done
+abbrev pub SaysOnly : Option Told → Option Told → Type 0
+SaysOnly before now = (part : List ℕ) × (now ≡ option_map (adds_said part) before)

@@ -11,3 +11,6 @@ pub mod Following
 pub mod Checking
 pub mod Certified
 pub mod GoalLaws
+pub mod WrittenEntries
+pub mod MeantLaws
+pub mod EntryLaws

@@ -1,11 +1,8 @@
 -- What written steps and statements are over the declarations of a goal.
-use Rattle.std.specs.Prelude.{◌≡◌, ◌&&◌, Bool, List, Option, Some, None, Result, Ok, Err, ⊤}
+use Rattle.std.specs.Prelude.{◌≡◌, List, Option, Some, None, Result, Ok, Err, ⊤}
 use Rattle.alg_terms.specs.declared.causes.BadCause.{BadCause}
 use Rattle.alg_terms.specs.declared.causes.BadCause.TheVariants as cause
-use Rattle.alg_terms.specs.Tree.{Tree, Statement, sort_of_tree}
-use Rattle.alg_terms.specs.Order.{sort_same}
-use Rattle.alg_law.specs.WellSorted.{mark_of, has_relation}
-use Rattle.alg_certificate_lines.specs.Known.{is_good}
+use Rattle.alg_terms.specs.Tree.{Tree, Statement}
 use Rattle.alg_expr.specs.declared.ids.Stmt.{Stmt}
 use Rattle.alg_expr.specs.Ids.{statement_of}
 use Rattle.alg_law.specs.Declarations.{Declaration}
@@ -51,8 +48,3 @@ abbrev pub BuildsGiven : List Declaration → List Tree → Statement → Result
 BuildsGiven ds ts s (Ok g) = meant_statement ds s ≡ Some (statement_of ts g)
 BuildsGiven ds ts s (Err fault.Memory) = ⊤
 BuildsGiven ds ts s (Err _) = meant_statement ds s ≡ None
-
--- a test for well sorted statements
-abbrev pub is_statement : List Declaration → Statement → Bool
-is_statement ds s =
-    (sort_same (sort_of_tree s.lhs) s.sort && sort_same (sort_of_tree s.rhs) s.sort) && (is_good (mark_of ds s.lhs) && (is_good (mark_of ds s.rhs) && has_relation ds s.rel s.sort))

@@ -3,8 +3,9 @@ ghost use Rattle.alg_host.specs.Host.{HasRisen, Adds, adds_said};
 ghost use Rattle.alg_parse.specs.FileTrees.{IsCommandIn};
 ghost use Rattle.alg_proof.specs.LemmaRows.{rows_of};
 ghost use Rattle.alg_certificate.specs.Reader.{coming_of};
-ghost use Rattle.alg_check.specs.Checking.{Checks};
+ghost use Rattle.alg_check.specs.Checking.{Checks, SaysOnly};
 ghost use Rattle.alg_check.specs.Entries.{Entry, EntryHasSpelling};
+ghost use Rattle.alg_check.specs.EntryLaws.{SomeEntries};
 ghost use Rattle.alg_check.specs.Findings.{finding_of, is_accepted};
 ghost use Rattle.alg_check.specs.Found.{seen_finding, counted};
 ghost use Rattle.alg_check.specs.Goals.{goals_seen};
@@ -95,6 +96,7 @@ fn say_finding<H: Host>(
     ensures tally { OnOk result (tally.new ≡ counted (seen_finding finding.now) tally.old) }
     ensures kept { result ≢ Err Stop.HostFailed → H.faults host.new ≡ H.faults host.old }
     ensures failed { IsErrOf result Stop.HostFailed → HasRisen (H.faults host.old) (H.faults host.new) }
+    ensures complaint_faults { H.complaint_faults host.new ≡ H.complaint_faults host.old }
 {
     let text = match finding.text(alloc) {
         Ok(text) => text,
@@ -123,6 +125,8 @@ fn check_entry<H: Host>(
     ensures count { OnOk result (tally.new.accepted + tally.new.refused ≡ tally.old.accepted + tally.old.refused + 1) }
     ensures kept { result ≢ Err Stop.HostFailed → H.faults host.new ≡ H.faults host.old }
     ensures failed { IsErrOf result Stop.HostFailed → HasRisen (H.faults host.old) (H.faults host.new) }
+    ensures complaint_faults { H.complaint_faults host.new ≡ H.complaint_faults host.old }
+    ensures says { SaysOnly (H.told host.old) (H.told host.new) }
 {
     let finding = find(alloc, lemmas, file, goals, before, entry)?;
     say_finding(alloc, &finding, tally, host)
@@ -139,6 +143,7 @@ fn say_fault<H: Host>(
     ensures tally { OnOk result (tally.new ≡ record tally.old { refused = tally.old.refused + 1 }) }
     ensures kept { result ≢ Err Stop.HostFailed → H.faults host.new ≡ H.faults host.old }
     ensures failed { IsErrOf result Stop.HostFailed → HasRisen (H.faults host.old) (H.faults host.new) }
+    ensures complaint_faults { H.complaint_faults host.new ≡ H.complaint_faults host.old }
 {
     let text = match text_of_fault(alloc, fault.offset) {
         Ok(text) => text,
@@ -153,6 +158,7 @@ fn say_last<H: Host>(alloc: Global, tally: &Tally, host: &mut H) -> Result<(), S
     ensures told { Adds adds_said (last_text tally.now) result (H.told host.old) (H.told host.new) }
     ensures kept { result ≢ Err Stop.HostFailed → H.faults host.new ≡ H.faults host.old }
     ensures failed { IsErrOf result Stop.HostFailed → HasRisen (H.faults host.old) (H.faults host.new) }
+    ensures complaint_faults { H.complaint_faults host.new ≡ H.complaint_faults host.old }
 {
     match tally.text(alloc) {
         Ok(text) => say(host, text.as_bytes()),
@@ -174,6 +180,8 @@ fn check_entries<H: Host>(
     ensures checks { Checks lines_text (rows_of lemmas.now) (map (goal_seen file.now) goals.now) reader.old (H.told host.old) (H.told host.new) result }
     ensures kept { result ≢ Err Stop.HostFailed → H.faults host.new ≡ H.faults host.old }
     ensures failed { IsErrOf result Stop.HostFailed → HasRisen (H.faults host.old) (H.faults host.new) }
+    ensures complaint_faults { H.complaint_faults host.new ≡ H.complaint_faults host.old }
+    ensures says { SaysOnly (H.told host.old) (H.told host.new) }
 {
     let mut tally = Tally::new();
     let mut before: u128 = 0;
@@ -195,7 +203,8 @@ fn check_entries<H: Host>(
 /// Checks a certificate against the goals of a file that was read, entry by entry, and says a line for each at its end,
 /// and the last line.
 ///
-/// An entry is checked over an arena of its own; memory is taken for one entry at a time.
+/// An entry is checked over an arena of its own; memory is taken for one entry at a time. The lines of every certificate
+/// are those of some entries.
 pub fn check_certificate<H: Host>(
     alloc: Global,
     lemmas: &Lemmas,
@@ -204,12 +213,15 @@ pub fn check_certificate<H: Host>(
     host: &mut H,
 ) -> Result<Tally, Stop>
     requires { All (IsCommandIn file.now.arena file.now.shared) file.now.commands }
+    ensures entries { SomeEntries (coming_of bytes.now).lines }
     ensures checks { Checks whole_text (rows_of lemmas.now) (goals_seen file.now) (coming_of bytes.now) (H.told host.old) (H.told host.new) result }
     ensures kept { result ≢ Err Stop.HostFailed → H.faults host.new ≡ H.faults host.old }
     ensures failed { IsErrOf result Stop.HostFailed → HasRisen (H.faults host.old) (H.faults host.new) }
+    ensures complaint_faults { H.complaint_faults host.new ≡ H.complaint_faults host.old }
+    ensures says { SaysOnly (H.told host.old) (H.told host.new) }
 {
-    let goals = goals_of(alloc, file)?;
     let mut reader = CertReader::new(bytes);
+    let goals = goals_of(alloc, file)?;
     let tally = check_entries(alloc, lemmas, file, &goals, &mut reader, host)?;
     say_last(alloc, &tally, host)?;
     Ok(tally)

@@ -14,3 +14,6 @@ pub mod tallies;
 pub use checking::check_certificate;
 pub use stops::Stop;
 pub use tallies::Tally;
+
+#[cfg(test)]
+mod tests;

@@ -6,13 +6,12 @@ ghost use Rattle.alg_terms.specs.Tree.{Statement};
 ghost use Rattle.alg_proof.specs.Steps.{Step};
 ghost use Rattle.alg_proof.specs.Lines.{IsLineIn};
 ghost use Rattle.alg_certificate.specs.Spelling.{HasSpelling, StatementHasSpelling, step_bytes, given_bytes};
-ghost use Rattle.alg_certificate_lines.specs.Known.{is_good};
-ghost use Rattle.alg_check.specs.Meant.{BuildsLine, BuildsGiven, is_statement};
+ghost use Rattle.alg_check.specs.Meant.{BuildsLine, BuildsGiven};
 
 use alg_certificate_lines::faults::LineFault;
 use alg_certificate_lines::{given, lines};
-use alg_expr::{Arena, Memory, Stmt};
-use alg_law::{Base, Mark, mark_for, relates};
+use alg_expr::{Arena, Stmt};
+use alg_law::Base;
 use alg_proof::Line;
 
 /// The line of a text, over the declarations of the base.
@@ -24,36 +23,12 @@ pub(crate) fn build_line(arena: &mut Arena, base: &Base, text: &[u8]) -> Result<
     lines::build_line(arena, base, text)
 }
 
-fn is_good(mark: Mark) -> bool
-    ensures { result ≡ is_good mark }
-{
-    matches!(mark, Mark::Good)
-}
-
-fn is_statement(base: &Base, arena: &Arena, stmt: Stmt) -> Result<bool, Memory>
-    requires { IsStatementIn arena.now stmt }
-    ensures { IfOk result (λ b. b ≡ is_statement base.now (statement_of arena.now stmt)) }
-{
-    let mut marks: Vec<Mark> = Vec::new(arena.alloc());
-    let left = mark_for(&mut marks, base, arena, stmt.lhs)?;
-    let right = mark_for(&mut marks, base, arena, stmt.rhs)?;
-    let sorts = arena.sort_of(stmt.lhs).is(stmt.sort) && arena.sort_of(stmt.rhs).is(stmt.sort);
-    let classes = is_good(left) && (is_good(right) && relates(base, stmt.rel, stmt.sort));
-    Ok(sorts && classes)
-}
-
-/// The statement of a text, over the declarations of the base. One that is read is well sorted, so that the test never
-/// fails.
+/// The statement of a text, over the declarations of the base.
 pub(crate) fn build_given(arena: &mut Arena, base: &Base, text: &[u8]) -> Result<Stmt, LineFault>
     ensures keeps { Extends arena.old arena.new }
     ensures here { IfOk result (IsStatementIn arena.new) }
     ensures sorted { IfOk result (λ s. IsStatement base.now (statement_of arena.new s)) }
     ensures builds { (s : Statement) → StatementHasSpelling s → given_bytes s ≡ text.now → BuildsGiven base.now arena.new s result }
 {
-    let stmt = given::build_given(arena, base, text)?;
-    if is_statement(base, arena, stmt)? {
-        Ok(stmt)
-    } else {
-        Err(LineFault::BadSort)
-    }
+    given::build_given(arena, base, text)
 }

@@ -27,6 +27,7 @@ pub(crate) fn say<H: Host>(host: &mut H, bytes: &[u8]) -> Result<(), Stop>
     ensures told { Adds adds_said bytes.now result (H.told host.old) (H.told host.new) }
     ensures ok { OnOk result (H.faults host.new ≡ H.faults host.old) }
     ensures failed { OnErr result (HasRisen (H.faults host.old) (H.faults host.new)) }
+    ensures complaint_faults { H.complaint_faults host.new ≡ H.complaint_faults host.old }
     ensures stop { IfErr result (λ e. e ≡ Stop.HostFailed) }
 {
     match host.say(bytes) {

@@ -10,7 +10,8 @@ use Rattle.alg_words.specs.Jobs.{Job, Usage, Prove, Check}
 use Rattle.alg_cli.specs.Effects.{Effects, nothing, asks, after, and_then, Does}
 use Rattle.alg_cli.specs.Plan.{AreWhole, plan_of}
 use Rattle.alg_cli.specs.Complaining.{Complaint}
-use Rattle.alg_cli.specs.Run.{Works, Answers, Begun, Loaded, IsReady, IsDone, Ends, status_of, complaint_of, most_bytes}
+use Rattle.alg_cli.specs.Run.{Works, Answers, Begun, IsReady, IsDone, Ends, status_of, complaint_of}
+use Rattle.alg_cli.specs.Loaded.{Loaded, most_bytes, most_certificate_bytes}
 use Rattle.alg_cli.specs.Work.{DidRead, DidText}
 use Rattle.alg_cli.specs.declared.work.Stop.{Stop}
 use Rattle.alg_cli.specs.declared.work.Stop.TheVariants as stop
@@ -126,12 +127,9 @@ nothing_done (Some t) job e h = (nothing, does_nothing (Some t), h t)
 pub declined : (a : Option Told) (job : Job) → job ≡ Usage → Works a a (Answers job ending.Usage)
 declined a job e = nothing_done a job ending.Usage (rw e (λ t. refl))
 
-pub declined_check : (a : Option Told) (job : Job) (file cert : List ℕ) → job ≡ Check file cert → Works a a (Answers job ending.Usage)
-declined_check a job file cert e = nothing_done a job ending.Usage (rw e (λ t. refl))
-
 no_memory_for : (job : Job) (t : Told) → Answers job ending.Memory t nothing
 no_memory_for Usage t = refl
-no_memory_for (Check file cert) t = refl
+no_memory_for (Check file cert) t = inr (inr (inr refl))
 no_memory_for (Prove file cert) t = inr (inr refl)
 
 pub no_memory_for_words : (a : Option Told) (job : Job) → Works a a (Answers job ending.Memory)
@@ -161,7 +159,16 @@ not_too_long x y most e l m = omega (arith, (rw e at l), m)
 
 is_done : (job : Job) (e : Ending) (t : Told) (d : Effects) (before now : ℕ) → Answers job e t d → (e ≡ ending.HostFailed → HasRisen before now) → IsReady job t → ¬ (HasRisen before now) → IsDone (status_of e)
 is_done Usage e t d before now answers failed ready calm = absurd ready
-is_done (Check file cert) e t d before now answers failed ready calm = absurd ready
+is_done (Check file cert) (ending.Done all) t d before now answers failed ready calm = tt
+is_done (Check file cert) ending.Memory t d before now answers failed ready calm = tt
+is_done (Check file cert) ending.Usage t d before now answers failed ready calm = absurd answers
+is_done (Check file cert) ending.HostFailed t d before now answers failed ready calm = absurd (calm (failed refl))
+is_done (Check file cert) ending.TooLong t d before now (inl long) failed ready calm =
+    absurd (not_too_long long.bytes ready.0 most_bytes (same_bytes long.bytes ready.0 (t.files file) long.found ready.2) long.beyond ready.4)
+is_done (Check file cert) ending.TooLong t d before now (inr long) failed ready calm =
+    absurd (not_too_long long.certificate ready.1 most_certificate_bytes (same_bytes long.certificate ready.1 (t.files cert) long.found ready.3) long.beyond ready.5)
+is_done (Check file cert) ending.NotText t d before now bad failed ready calm =
+    absurd (bad.not_text (subst (λ (l : List ℕ). IsUtf8 l) (same_bytes ready.0 bad.bytes (t.files file) ready.2 bad.loaded.loaded.found) ready.6))
 is_done (Prove file cert) (ending.Done all) t d before now answers failed ready calm = tt
 is_done (Prove file cert) ending.Memory t d before now answers failed ready calm = tt
 is_done (Prove file cert) ending.Usage t d before now answers failed ready calm = absurd answers

@@ -6,4 +6,7 @@ pub mod Certifying
 pub mod Judging
 pub mod Seeing
 pub mod Answering
+pub mod Accepting
+pub mod CheckAnswering
 pub mod Writing
+pub mod Spelled

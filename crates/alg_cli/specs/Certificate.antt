@@ -1,12 +1,13 @@
 -- Which bytes are a certificate for a file.
-use Rattle.std.specs.Prelude.{◌≡◌, ℕ, ◌+◌, List, [], ◌∷◌, ◌++◌, take, Option, None, Some, codes}
+use Rattle.std.specs.Prelude.{◌≡◌, ℕ, ◌+◌, ◌≤◌, List, [], ◌∷◌, ◌++◌, take, All, Option, None, Some, IfSome, codes}
 use Rattle.alg_terms.specs.Tree.{Statement}
 use Rattle.alg_law.specs.Declarations.{Declaration}
 use Rattle.alg_proof.specs.Steps.{Theory, Step}
 use Rattle.alg_proof.specs.Valid.{IsValid}
 use Rattle.alg_lemma.specs.Lemmas.{lemma_table}
 use Rattle.alg_kernel.specs.Claims.{Claim}
-use Rattle.alg_certificate.specs.Spelling.{step_bytes, given_bytes, goal_bytes}
+use Rattle.alg_certificate.specs.Numbers.{max_number}
+use Rattle.alg_certificate.specs.Spelling.{step_bytes, given_bytes, goal_bytes, HasSpelling, StatementHasSpelling}
 use Rattle.alg_cli.specs.Verdict.{Verdict, Closed, Failed}
 use Rattle.alg_cli.specs.Report.{Goal, Finding, of_goal, of_fault}
 
@@ -30,10 +31,14 @@ entry_bytes number given steps = goal_bytes number ++ (10 ∷ (given_line given 
 abbrev pub theory_for : Claim → Theory
 theory_for c = record { declarations = c.declarations; lemmas = lemma_table; given = c.given }
 
--- the entry for a claim: its lines are valid for the goal
+-- the entry for a claim, in the grammar of certificates: its lines are valid for the goal
 pub record IsEntry (number : ℕ) (claim : Claim) (bytes : List ℕ) : Type 0 where
   pub steps : List Step
   pub valid : IsValid (theory_for claim) steps claim.goal
+  -- the grammar has texts for all of it
+  pub numbered : (1 ≤ number) × (number ≤ max_number)
+  pub given_spelled : IfSome claim.given StatementHasSpelling
+  pub steps_spelled : All HasSpelling steps
   pub spelled : bytes ≡ entry_bytes number claim.given steps
 
 -- what a closed goal claims, over the declarations of the file

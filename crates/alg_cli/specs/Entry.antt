@@ -1,10 +1,11 @@
 -- What became of a goal in the code, and how it counts.
-use Rattle.std.specs.Prelude.{◌≡◌, ◌≤◌, ℕ, ◌+◌, ⊤, List, [], ◌∷◌, ◌++◌, Bool, IsTrue, Option, None, Some, Result, Ok, Err}
+use Rattle.std.specs.Prelude.{◌≡◌, ◌≤◌, ℕ, ◌+◌, ⊤, List, [], ◌∷◌, ◌++◌, All, Bool, IsTrue, Option, None, Some, Result, Ok, Err}
 use Rattle.std.specs.Global.{Vec}
 use Rattle.alg_terms.specs.Tree.{Statement}
 use Rattle.alg_law.specs.Declarations.{Declaration}
 use Rattle.alg_proof.specs.Steps.{Step}
 use Rattle.alg_certificate.specs.Numbers.{max_number}
+use Rattle.alg_certificate.specs.InRange.{StepInRange}
 use Rattle.alg_kernel.specs.Claims.{Claim}
 use Rattle.alg_cli.specs.Verdict.{Verdict}
 use Rattle.alg_cli.specs.Verdict as verdict
@@ -22,11 +23,11 @@ IsEntryFor None claim o = ⊤
 IsEntryFor (Some number) claim None = ⊥
 IsEntryFor (Some number) claim (Some bytes) = IsEntry number claim bytes.items
 
--- the bytes of the entry with these steps, where nothing is given
+-- the bytes of the entry with these steps, whose numbers are in range, where nothing is given
 abbrev pub IsWritten : Option ℕ → List Step → Option (Vec ℕ) → Type 0
 IsWritten None steps o = ⊤
 IsWritten (Some number) steps None = ⊥
-IsWritten (Some number) steps (Some bytes) = bytes.items ≡ entry_bytes number None steps
+IsWritten (Some number) steps (Some bytes) = All StepInRange steps × (bytes.items ≡ entry_bytes number None steps)
 
 -- what is claimed where nothing is given
 abbrev pub claims : List Declaration → Statement → Claim

@@ -7,4 +7,6 @@ pub mod Entry
 pub mod Seen
 pub mod Work
 pub mod Complaining
+pub mod Loaded
+pub mod Checked
 pub mod Run

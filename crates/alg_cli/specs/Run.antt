@@ -14,20 +14,12 @@ use Rattle.alg_cli.specs.Verdict.{Verdict, Closed, Failed}
 use Rattle.alg_cli.specs.Report.{Finding, of_goal, of_fault, report_of, findings_of, IsAllClosed}
 use Rattle.alg_cli.specs.Certificate.{claim_in, IsCertificate}
 use Rattle.alg_cli.specs.Plan.{AreWhole, Reached, plan_of}
+use Rattle.alg_cli.specs.Loaded.{Loaded, most_bytes, most_certificate_bytes, CertificateRefused, CertificateTooLong}
+use Rattle.alg_cli.specs.Checked.{Checked, CheckBegun, Unchecked, CheckNotText}
 use Rattle.alg_cli.specs.declared.status.Ending.{Ending}
 use Rattle.alg_cli.specs.declared.status.Ending.TheVariants as ending
 use Rattle.alg_cli.specs.declared.status.Status.{Status}
 use Rattle.alg_cli.specs.declared.status.Status.TheVariants as status
-
--- the longest file that is read
-abbrev pub most_bytes : ℕ
-most_bytes = 2 ^ 24
-
--- a file with these bytes was loaded, and then the rest was done
-pub record Loaded (file bytes : List ℕ) (t : Told) (rest d : Effects) : Type 0 where
-  pub found : t.files file ≡ Some bytes
-  pub within : length bytes ≤ most_bytes
-  pub both : d ≡ and_then (asks (Loads file true)) rest
 
 abbrev pub claims_at : List Declaration → Finding → List Claim
 claims_at shared (of_goal label g Closed) = claim_in shared g ∷ []
@@ -101,10 +93,15 @@ Declines ending.Usage d = d ≡ nothing
 Declines ending.Memory d = d ≡ nothing
 Declines _ d = ⊥
 
--- what was done, by the answer, where the host told t before; checking isn't built yet
+-- what was done, by the answer, where the host told t before
 abbrev pub Answers : Job → Ending → Told → Effects → Type 0
 Answers Usage e t d = Declines e d
-Answers (Check file cert) e t d = Declines e d
+Answers (Check file cert) (ending.Done all_closed) t d = Checked file cert all_closed t d
+Answers (Check file cert) ending.Usage t d = ⊥
+Answers (Check file cert) ending.HostFailed t d = CheckBegun file cert t d ⊎ (CertificateRefused file cert t d ⊎ IsRefused file d)
+Answers (Check file cert) ending.TooLong t d = TooLong file t d ⊎ CertificateTooLong file cert t d
+Answers (Check file cert) ending.NotText t d = CheckNotText file cert t d
+Answers (Check file cert) ending.Memory t d = CheckBegun file cert t d ⊎ (Unchecked file cert t d ⊎ (Unread file t d ⊎ (d ≡ nothing)))
 Answers (Prove file cert) (ending.Done all_closed) t d = Reported file cert all_closed t d
 Answers (Prove file cert) ending.Usage t d = ⊥
 Answers (Prove file cert) ending.HostFailed t d = Begun file cert t d ⊎ IsRefused file d
@@ -152,13 +149,13 @@ Ends job s before now (Some t) later = Ended job s before now t later
 -- the words ask for nothing that is built
 abbrev pub AsksNothing : Job → Type 0
 AsksNothing Usage = ⊤
-AsksNothing (Check file cert) = ⊤
+AsksNothing (Check file cert) = ⊥
 AsksNothing (Prove file cert) = ⊥
 
--- the words ask for a file that there is, that isn't too long, and that is UTF-8
+-- the words ask for files that there are, that aren't too long, and the first of which is UTF-8
 abbrev pub IsReady : Job → Told → Type 0
 IsReady Usage t = ⊥
-IsReady (Check file cert) t = ⊥
+IsReady (Check file cert) t = (bytes : List ℕ) × (certificate : List ℕ) × (t.files file ≡ Some bytes) × (t.files cert ≡ Some certificate) × (length bytes ≤ most_bytes) × (length certificate ≤ most_certificate_bytes) × IsUtf8 bytes
 IsReady (Prove file cert) t = (bytes : List ℕ) × (t.files file ≡ Some bytes) × (length bytes ≤ most_bytes) × IsUtf8 bytes
 
 -- the work was done, or memory ran out

@@ -1,6 +1,7 @@
 //! The program as a library: words in, a report out, over any host.
 #![tactic(auto)]
 
+mod checking;
 mod entries;
 mod program;
 mod proofs;

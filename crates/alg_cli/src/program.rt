@@ -5,6 +5,7 @@ ghost use Rattle.alg_words.specs.Jobs.{job_of, Prove};
 ghost use Rattle.alg_cli.specs.Complaining.{Complaint};
 ghost use Rattle.alg_cli.specs.Run.{Works, Answers, Ends, AsksNothing, IsReady, IsDone, complaint_of};
 
+use crate::checking::check;
 use crate::status::{Ending, Status};
 use crate::work::{Stop, do_text};
 use alg_host::{Host, LoadFault};
@@ -50,7 +51,7 @@ fn work<H: Host>(alloc: Global, words: &[String], host: &mut H) -> Ending
 {
     match read_words(alloc, words) {
         Ok(Job::Usage) => Ending::Usage,
-        Ok(Job::Check { .. }) => Ending::Usage,
+        Ok(Job::Check { file, cert }) => check(alloc, file, cert, host),
         Ok(Job::Prove { file, cert }) => prove(alloc, file, cert, host),
         Err(Memory) => Ending::Memory,
     }
@@ -71,7 +72,8 @@ fn complain<H: Host>(host: &mut H, ending: Ending)
 ///
 /// A file that was loaded is read as a whole, and then reported command by command; what was done by the time a call on
 /// the host fails, or memory runs out, is a beginning of what would have been done. A closed goal is written into the
-/// certificate, where one is asked for, then handed to the host, and only then reported.
+/// certificate, where one is asked for, then handed to the host, and only then reported. For a check of a certificate
+/// both files are loaded before anything is looked at.
 pub fn run<H: Host>(alloc: Global, words: &[String], host: &mut H, _exts: &Extensions) -> Status
     // the calls, the certificate, the goals handed over, the report and the complaint; or a beginning of them
     ensures answers { Ends (job_of (map (λ w. string_bytes w) words.now)) result (H.complaint_faults host.old) (H.complaint_faults host.new) (H.told host.old) (H.told host.new) }

@@ -1,6 +1,7 @@
 ghost use Rattle.std.specs.Prelude.{◌≡◌, ◌≤◌, ◌++◌, All, OnOk, IfOk, None};
 ghost use Rattle.alg_proof.specs.Lines.{steps_of, IsLineIn};
 ghost use Rattle.alg_certificate.specs.Numbers.{max_number};
+ghost use Rattle.alg_certificate.specs.InRange.{StepInRange};
 ghost use Rattle.alg_cli.specs.Certificate.{step_lines, entry_bytes};
 
 use alg_certificate::{write_goal, write_line};
@@ -19,7 +20,8 @@ pub(crate) struct Proof {
 // the lines, each with its line feed
 fn write_lines(arena: &Arena, lines: &[Line], out: &mut Vec<u8>) -> Result<(), Memory>
     requires { All (IsLineIn arena.now) lines.now }
-    ensures { OnOk result (out.new.items ≡ out.old.items ++ step_lines (steps_of arena.now lines.now)) }
+    ensures written { OnOk result (out.new.items ≡ out.old.items ++ step_lines (steps_of arena.now lines.now)) }
+    ensures steps_in_range { OnOk result (All StepInRange (steps_of arena.now lines.now)) }
 {
     let mut left = lines;
     'lines: while let Some((line, rest)) = left.split_first() {
@@ -40,7 +42,8 @@ pub(crate) fn entry_of(
     requires positive { 1 ≤ number }
     requires in_range { number ≤ max_number }
     requires lines_in { All (IsLineIn arena.now) lines.now }
-    ensures { IfOk result (λ v. v.items ≡ entry_bytes number None (steps_of arena.now lines.now)) }
+    ensures written { IfOk result (λ v. v.items ≡ entry_bytes number None (steps_of arena.now lines.now)) }
+    ensures steps_in_range { OnOk result (All StepInRange (steps_of arena.now lines.now)) }
 {
     let mut entry = Vec::new(alloc);
     write_goal(number, &mut entry)?;

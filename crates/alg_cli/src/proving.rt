@@ -9,6 +9,8 @@ ghost use Rattle.alg_proof.specs.Lines.{steps_of, IsLineIn};
 ghost use Rattle.alg_lemma.specs.Lemmas.{lemma_table};
 ghost use Rattle.alg_kernel.specs.Claims.{Claim};
 ghost use Rattle.alg_parse.specs.FileTrees.{IsGoalIn};
+ghost use Rattle.alg_show.specs.ReadingBack.{AreDeclarable};
+ghost use Rattle.alg_certificate_lines.specs.SpellingLaws.{HaveArguments};
 ghost use Rattle.alg_cli.specs.Seen.{call_seen, calls_seen, goal_seen};
 ghost use Rattle.alg_cli.specs.Verdict.{cause_of_answer, cause_of_call, when_closed, verdict_of};
 ghost use Rattle.alg_cli.specs.Certificate.{claim_in, theory_for, entry_bytes};
@@ -55,6 +57,7 @@ fn check(
     requires line_here { line ≤ length cx.done }
     requires line_is { line_at cx.done line ≡ Some (statement_of cx.trees goal) }
     requires theory { cx.theory ≡ theory_for (claims cx.theory.declarations (statement_of cx.trees goal)) }
+    requires arguments { HaveArguments cx.theory.declarations }
     requires number { MayNumber number }
     ensures { IfOk result (IsProofOf number (claims cx.theory.declarations (statement_of cx.trees goal))) }
 {
@@ -66,6 +69,8 @@ fn check(
         lines,
         given: _,
     } = cx.into_parts();
+    let _declarations = base.len();
+    let _lines = lines.len();
     let entry = entry_for(alloc, number, &arena, &lines)?;
     match Proved::new(alloc, &lemmas, base, &mut arena, None, goal, &lines) {
         Ok(proved) => Ok(Proof { proved, entry }),
@@ -83,6 +88,7 @@ fn close_by_norm_num(
 ) -> Result<Result<Proof, FailCause>, Memory>
     requires here { IsStatementIn cx.trees goal }
     requires theory { cx.theory ≡ theory_for (claims cx.theory.declarations (statement_of cx.trees goal)) }
+    requires arguments { HaveArguments cx.theory.declarations }
     requires number { MayNumber number }
     ensures cause { IfOk result (λ r. cause_in r ≡ cause_of_answer (answer_to (statement_of cx.trees goal))) }
     ensures made { IfOk result (IsMade number (claims cx.theory.declarations (statement_of cx.trees goal))) }
@@ -117,6 +123,7 @@ fn call(
 ) -> Result<Result<Proof, FailCause>, Memory>
     requires here { IsStatementIn cx.trees goal }
     requires theory { cx.theory ≡ theory_for (claims cx.theory.declarations (statement_of cx.trees goal)) }
+    requires arguments { HaveArguments cx.theory.declarations }
     requires number { MayNumber number }
     ensures cause { IfOk result (λ r. cause_in r ≡ cause_of_call (call_seen procedure.now) (statement_of cx.trees goal)) }
     ensures made { IfOk result (IsMade number (claims cx.theory.declarations (statement_of cx.trees goal))) }
@@ -151,6 +158,7 @@ fn run_script(
 ) -> Result<Fate, Memory>
     requires here { IsStatementIn cx.trees goal }
     requires theory { cx.theory ≡ theory_for (claims cx.theory.declarations (statement_of cx.trees goal)) }
+    requires arguments { HaveArguments cx.theory.declarations }
     requires number { MayNumber number }
     ensures verdict { IfOk result (λ f. verdict_in f ≡ verdict_of (statement_of cx.trees goal) (calls_seen script.now)) }
     ensures proof { IfOk result (IsFateOf number (claims cx.theory.declarations (statement_of cx.trees goal))) }
@@ -180,6 +188,7 @@ pub(crate) fn prove_goal(
     number: Option<u128>,
 ) -> Result<Fate, Memory>
     requires goal { IsGoalIn file.now.arena file.now.shared prefix local.now stmt }
+    requires declarable { AreDeclarable (take prefix file.now.shared ++ declarations_of file.now.arena local.now) }
     requires lemmas { rows_of lemmas.now.value ≡ lemma_table }
     requires number { MayNumber number }
     ensures verdict { IfOk result (λ f. verdict_in f ≡ verdict_of (statement_of file.now.arena stmt) (calls_seen script.now)) }

@@ -9,7 +9,7 @@ pub enum Status {
     Usage,
     /// A call on the host failed.
     HostFailed,
-    /// The file is longer than what is read, or isn't UTF-8.
+    /// The file or the certificate is longer than what is read, or the file isn't UTF-8.
     BadInput,
     /// Memory ran out.
     Memory,

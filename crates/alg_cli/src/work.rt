@@ -4,6 +4,7 @@ ghost use Rattle.alg_lemma.specs.Lemmas.{lemma_table};
 ghost use Rattle.alg_host.specs.Host.{HasRisen};
 ghost use Rattle.alg_words.specs.Words.{text_in};
 ghost use Rattle.alg_parse.specs.FileTrees.{IsCommandIn};
+ghost use Rattle.alg_goals.specs.Goals.{IsDeclarableIn};
 ghost use Rattle.alg_cli.specs.Seen.{told_seen, seen_of};
 ghost use Rattle.alg_cli.specs.Report.{findings_at, findings_of, tally_of, tally_text, total_of, verdict_text, error_text, IsAllClosed};
 ghost use Rattle.alg_cli.specs.Certificate.{heading};
@@ -15,9 +16,10 @@ use crate::entries::{Fate, Tally, text_of_error};
 use crate::proofs::Proof;
 use crate::proving::prove_goal;
 use alg_expr::Memory;
+use alg_goals::read_goals;
 use alg_host::{CreateFault, Failed, Host, Proved};
 use alg_lemma::library;
-use alg_parse::{Cause, Command, FileTree, read_file};
+use alg_parse::{Cause, Command, FileTree};
 use alg_proof::Lemmas;
 use std::alloc::Global;
 use std::rc::Rc;
@@ -230,6 +232,7 @@ fn do_command<H: Host>(
     host: &mut H,
 ) -> Result<(), Stop>
     requires command { IsCommandIn file.now.arena file.now.shared command.now }
+    requires declarable { IsDeclarableIn file.now.arena file.now.shared command.now }
     requires lemmas { rows_of lemmas.now.value ≡ lemma_table }
     requires small { total_of tally.old < 2 ^ 63 }
     requires made { IsTrue certified → IsTrue (H.made host.old) }
@@ -278,6 +281,7 @@ fn do_commands<H: Host>(
     host: &mut H,
 ) -> Result<Tally, Stop>
     requires commands { All (IsCommandIn file.now.arena file.now.shared) file.now.commands }
+    requires declarable { All (IsDeclarableIn file.now.arena file.now.shared) file.now.commands }
     requires lemmas { rows_of lemmas.now.value ≡ lemma_table }
     requires made { IsTrue certified → IsTrue (H.made host.old) }
     ensures told { Did (H.told host.old) (H.told host.new) (events_from certified file.now.shared 1 (findings_of (seen_of file.now))) result }
@@ -328,6 +332,7 @@ fn do_file<H: Host>(
     host: &mut H,
 ) -> Result<bool, Stop>
     requires commands { All (IsCommandIn file.now.arena file.now.shared) file.now.commands }
+    requires declarable { All (IsDeclarableIn file.now.arena file.now.shared) file.now.commands }
     requires lemmas { rows_of lemmas.now.value ≡ lemma_table }
     ensures told { Did (H.told host.old) (H.told host.new) (plan_of (text_in cert.entry) file.now.shared (seen_of file.now)) result }
     ensures all_closed { IfOk result (λ all. IsTrue all ↔ IsAllClosed (seen_of file.now)) }
@@ -367,7 +372,7 @@ pub(crate) fn do_text<H: Host>(
         Ok(lemmas) => lemmas,
         Err(_) => return Err(Stop::Memory),
     };
-    match read_file(alloc, text) {
+    match read_goals(alloc, text) {
         Ok(file) => do_file(alloc, &lemmas, &file, cert, host),
         Err(_) => Err(Stop::Memory),
     }

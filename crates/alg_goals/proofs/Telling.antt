@@ -8,7 +8,7 @@ use Rattle.alg_terms.specs.Tree.{Tree}
 use Rattle.alg_expr.specs.declared.ids.Stmt.{Stmt}
 use Rattle.alg_lex.specs.Items.{Item, items_from, beginning}
 use Rattle.alg_law.specs.declared.declarations.Declared.{Declared}
-use Rattle.alg_law.specs.Declarations.{Declaration, declarations_of}
+use Rattle.alg_law.specs.Declarations.{Declaration}
 use Rattle.alg_syntax.specs.declared.commands.Goal.{Goal}
 use Rattle.alg_syntax.specs.declared.commands.Command as written
 use Rattle.alg_syntax.specs.declared.commands.Command.TheVariants.{Import, Variable, Theorem, Example}
@@ -30,7 +30,7 @@ use Rattle.alg_parse.specs.Told.{Told, declares, goal, faulty}
 use Rattle.alg_parse.specs.Files.{Known, nothing, in_force, fault_in, command_told, told_where, told_of, known_where, known_after, Tell, none, more}
 use Rattle.alg_parse.specs.FileTrees.{IsTold, AreTold, IsGoalIn, IsCommandIn}
 use Rattle.alg_show.specs.ReadingBack.{AreDeclarable}
-use Rattle.alg_goals.specs.Goals.{WasRead, IsGoalOf, HasGoal, base_in}
+use Rattle.alg_goals.specs.Goals.{WasRead, IsGoalOf, HasGoal, base_in, IsDeclarableIn}
 use Rattle.alg_goals.proofs.NamesRead.{AllNamed, CommandsNamed, text_named}
 use Rattle.alg_goals.proofs.NamesSpelled.{BindersNamed, CommandNamed, read_named}
 use Rattle.alg_goals.proofs.Declarable.{nothing_declarable, more_declarable}
@@ -125,11 +125,6 @@ told_all _ _ _ _ (more k items commands r told end o t) h n =
 
 -- the commands of the code
 
-abbrev IsDeclarableIn : List Tree → List Declaration → Command → Type 0
-IsDeclarableIn ts shared command.Declares = ⊤
-IsDeclarableIn ts shared (command.Goal label line prefix local stmt script) = AreDeclarable (take prefix shared ++ declarations_of ts local)
-IsDeclarableIn ts shared (command.Fault line cause) = ⊤
-
 command_declarable : (ts : List Tree) (shared : List Declaration) (c : Command) (t : Told) → IsTold ts c t → IsDeclarableTold shared t → IsDeclarableIn ts shared c
 command_declarable ts shared command.Declares t e h = tt
 command_declarable ts shared (command.Goal label line prefix local stmt script) t e h = subst (IsDeclarableTold shared) e.2 h
@@ -141,7 +136,14 @@ commands_declarable ts shared (c ∷ cs) [] e h = absurd e
 commands_declarable ts shared (c ∷ cs) (t ∷ told) e h =
     All-cons (IsDeclarableIn ts shared) c cs (command_declarable ts shared c t e.0 h.0) (commands_declarable ts shared cs told e.1 h.1)
 
--- a goal of a file that was read
+-- a file that was read, and one of its goals
+
+pub all_declarable : (f : FileTree) → WasRead f → All (IsDeclarableIn f.arena f.shared) f.commands
+all_declarable f r =
+    let read = r.read in
+    let end = read.tells.end in
+    let all = told_all nothing (commands_of (items_from beginning (chars r.text))) read.told end read.tells.tell nothing_declarable (text_named r.text r.utf8) in
+    commands_declarable f.arena f.shared f.commands read.told read.commands_told (subst (λ ds. AllDeclarable ds read.told) (sym read.shared) all)
 
 pub goal_in : (f : FileTree) (prefix : ℕ) (local : List Declared) (stmt : Stmt) → WasRead f → IsGoalOf f prefix local stmt → IsGoalIn f.arena f.shared prefix local stmt
 goal_in f prefix local stmt r g = All-contains (IsCommandIn f.arena f.shared) f.commands (command.Goal g.label g.line prefix local stmt g.script) r.read.each g.among
@@ -149,8 +151,4 @@ goal_in f prefix local stmt r g = All-contains (IsCommandIn f.arena f.shared) f.
 pub base_declarable : (f : FileTree) (prefix : ℕ) (local : List Declared) → WasRead f → HasGoal f prefix local → AreDeclarable (base_in f prefix local)
 base_declarable f prefix local r h =
     let g = h.1 in
-    let read = r.read in
-    let end = read.tells.end in
-    let all = told_all nothing (commands_of (items_from beginning (chars r.text))) read.told end read.tells.tell nothing_declarable (text_named r.text r.utf8) in
-    let each = commands_declarable f.arena f.shared f.commands read.told read.commands_told (subst (λ ds. AllDeclarable ds read.told) (sym read.shared) all) in
-    All-contains (IsDeclarableIn f.arena f.shared) f.commands (command.Goal g.label g.line prefix local h.0 g.script) each g.among
+    All-contains (IsDeclarableIn f.arena f.shared) f.commands (command.Goal g.label g.line prefix local h.0 g.script) (all_declarable f r) g.among

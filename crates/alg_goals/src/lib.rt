@@ -2,8 +2,10 @@
 #![tactic(auto)]
 
 mod bases;
+mod files;
 
 pub use bases::{base_of, show_goal, show_over};
+pub use files::read_goals;
 
 #[cfg(test)]
 mod tests;

@@ -1,6 +1,7 @@
 use Rattle.std.proofs.Common.{◌≡◌, ◌∙◌, sym, arith, rules}
 use Rattle.alg_check.specs.Written.{Gives, seen_entry}
 use Rattle.alg_check.proofs.Standing.{at_start, next, cut, cut_before, over, fault_said, fault_cut}
+use Rattle.alg_check.proofs.Saying.{says_nothing, says_part, says_then}
 use Rattle.alg_check.proofs.checking.check_entries.Goals as goal
 
 pub entries-init : goal.entries-init
@@ -9,6 +10,8 @@ entries-init g c = record {
   fault = search rules;
   small = omega (arith, c.new-tally.ensures.accepted, c.new-tally.ensures.refused);
   faults = search rules;
+  complaint_faults = search rules;
+  says = says_nothing _;
 }
 
 pub returns-in_err-next_entry-clause-checks : goal.returns-in_err-next_entry-clause-checks
@@ -42,4 +45,15 @@ entries-preserved g c =
       fault = gives.1 ∙ c.entries.invariant.fault;
       small = omega (arith, c.in_ok-check_entry-in-Entry.ensures.count, gives.2, c.entries.invariant.small);
       faults = c.check_entry.ensures.kept (rw c.in_ok-check_entry-in-Entry.was (λ e. cc)) ∙ c.entries.invariant.faults;
+      says = says_then _ _ _ c.entries.invariant.says c.check_entry.ensures.says;
+      complaint_faults = c.check_entry.ensures.complaint_faults ∙ c.entries.invariant.complaint_faults;
     }
+
+pub returns-in_err-say_fault-in-Bad-clause-says : goal.returns-in_err-say_fault-in-Bad-clause-says
+returns-in_err-say_fault-in-Bad-clause-says g c = says_then _ _ _ c.entries.invariant.says (says_part _ _ _ c.say_fault.result c.say_fault.ensures.told)
+
+pub returns-in-Bad-clause-says : goal.returns-in-Bad-clause-says
+returns-in-Bad-clause-says g c = says_then _ _ _ c.entries.invariant.says (says_part _ _ _ c.say_fault.result c.say_fault.ensures.told)
+
+pub returns-in_err-check_entry-in-Entry-clause-says : goal.returns-in_err-check_entry-in-Entry-clause-says
+returns-in_err-check_entry-in-Entry-clause-says g c = says_then _ _ _ c.entries.invariant.says c.check_entry.ensures.says

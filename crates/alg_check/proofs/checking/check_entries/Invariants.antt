@@ -1,5 +1,6 @@
 use Rattle.std.proofs.Common.{◌≡◌, ◌≤◌, ℕ, ◌+◌, List, length, map}
 use Rattle.alg_proof.specs.LemmaRows.{rows_of}
+use Rattle.alg_check.specs.Checking.{SaysOnly}
 use Rattle.alg_check.specs.Entries.{Entry, AreEntriesOf}
 use Rattle.alg_check.specs.Opened.{goal_seen}
 use Rattle.alg_check.proofs.Standing.{Stands}
@@ -11,6 +12,8 @@ invariant-entries g l = record {
   fault : l.reader.fault ≡ l.fn.reader.fault;
   small : l.tally.accepted + l.tally.refused + length l.reader.lines ≤ length l.fn.reader.lines;
   faults : g.H.Host.faults l.host ≡ g.H.Host.faults l.fn.host;
+  says : SaysOnly (g.H.Host.told l.fn.host) (g.H.Host.told l.host);
+  complaint_faults : g.H.Host.complaint_faults l.host ≡ g.H.Host.complaint_faults l.fn.host;
 }
 
 abbrev pub decreases-entries : goal.decreases-entries

@@ -1,5 +1,5 @@
 -- The words that proof lines begin with.
-use Rattle.std.proofs.Common.{◌≡◌, ℕ, Bool, true, false, List, [], ◌∷◌, ◌++◌, Option, Some, None, codes, refl, sym, ap, subst, if◌then◌else◌}
+use Rattle.std.proofs.Common.{◌≡◌, ℕ, Bool, true, false, List, ◌++◌, Some, None, codes, refl, subst, if◌then◌else◌}
 use Rattle.std.proofs.lemmas.Option.{none-some}
 use Rattle.alg_certificate.specs.declared.patterns.Part.{Part}
 use Rattle.alg_certificate.specs.Cutting.{after}

@@ -1,0 +1,76 @@
+ghost use Rattle.std.specs.Prelude.{◌≡◌, ◌≢◌, ◌≤◌, ◌^◌, ◌⊎◌, length, IsErrOf};
+ghost use Rattle.alg_host.specs.Host.{HasRisen};
+ghost use Rattle.alg_words.specs.Jobs.{Check};
+ghost use Rattle.alg_cli.specs.Checked.{DidCheck};
+ghost use Rattle.alg_cli.specs.Run.{Works, Answers};
+
+use crate::status::Ending;
+use crate::work::Stop;
+use alg_check::check_certificate;
+use alg_host::{Host, LoadFault};
+use alg_lemma::library;
+use alg_parse::read_file;
+use std::alloc::Global;
+
+const MOST_BYTES: u64 = 1 << 24;
+
+const MOST_CERTIFICATE_BYTES: u64 = 1 << 30;
+
+// Checks a certificate against the text of a file, and answers whether nothing is refused.
+fn check_text<H: Host>(
+    alloc: Global,
+    text: &str,
+    certificate: &[u8],
+    host: &mut H,
+) -> Result<bool, Stop>
+    requires { length text.now ≤ 2 ^ 24 }
+    ensures done { DidCheck text.now certificate.now (H.told host.old) (H.told host.new) result ⊎ ((result ≡ Err Stop.Memory) × (H.told host.new ≡ H.told host.old)) }
+    ensures kept { result ≢ Err Stop.HostFailed → H.faults host.new ≡ H.faults host.old }
+    ensures failed { IsErrOf result Stop.HostFailed → HasRisen (H.faults host.old) (H.faults host.new) }
+    ensures complaint_faults { H.complaint_faults host.new ≡ H.complaint_faults host.old }
+{
+    let lemmas = match library(alloc) {
+        Ok(lemmas) => lemmas,
+        Err(_) => return Err(Stop::Memory),
+    };
+    let file = match read_file(alloc, text) {
+        Ok(file) => file,
+        Err(_) => return Err(Stop::Memory),
+    };
+    match check_certificate(alloc, &lemmas, &file, certificate, host) {
+        Ok(tally) => Ok(tally.all_accepted()),
+        Err(alg_check::Stop::HostFailed) => Err(Stop::HostFailed),
+        Err(alg_check::Stop::Memory) => Err(Stop::Memory),
+    }
+}
+
+/// Loads a file and a certificate, and checks the certificate against the goals of the file.
+pub(crate) fn check<H: Host>(alloc: Global, file: &str, cert: &str, host: &mut H) -> Ending
+    ensures answers { Works (H.told host.old) (H.told host.new) (Answers (Check file.now cert.now) result) }
+    ensures no_usage { result ≢ Ending.Usage }
+    ensures kept { result ≢ Ending.HostFailed → H.faults host.new ≡ H.faults host.old }
+    ensures failed { result ≡ Ending.HostFailed → HasRisen (H.faults host.old) (H.faults host.new) }
+    ensures complaint_faults { H.complaint_faults host.new ≡ H.complaint_faults host.old }
+{
+    let bytes = match host.load(alloc, file, MOST_BYTES) {
+        Ok(bytes) => bytes,
+        Err(LoadFault::Failed) => return Ending::HostFailed,
+        Err(LoadFault::TooLong) => return Ending::TooLong,
+        Err(LoadFault::Memory) => return Ending::Memory,
+    };
+    let certificate = match host.load(alloc, cert, MOST_CERTIFICATE_BYTES) {
+        Ok(certificate) => certificate,
+        Err(LoadFault::Failed) => return Ending::HostFailed,
+        Err(LoadFault::TooLong) => return Ending::TooLong,
+        Err(LoadFault::Memory) => return Ending::Memory,
+    };
+    let text = match str::from_utf8(&bytes) {
+        Ok(text) => text,
+        Err(_) => return Ending::NotText,
+    };
+    match check_text(alloc, text, &certificate, host) {
+        Ok(all_closed) => Ending::Done { all_closed },
+        Err(Stop::HostFailed) => Ending::HostFailed,
+        Err(Stop::Memory) => Ending::Memory,
+    }
+}
