@@ -3,7 +3,9 @@ ghost use Rattle.std.specs.Prelude.{◌≡◌};
 use alg_terms::{Rel, Sort, Sym};
 
 /// Stands for a tree of an arena. Two ids of one arena are equal exactly where their trees are.
-#[derive(Clone, Copy, Debug, PartialEq, Eq, Hash)]
+///
+/// The default has the number 0: lists that keep room for ids, such as `SmallVec`, fill it with this one.
+#[derive(Clone, Copy, Debug, Default, PartialEq, Eq, Hash)]
 pub struct ExprId {
     pub(crate) index: usize,
 }
