@@ -11,12 +11,13 @@ ghost use Rattle.alg_build.specs.Sides.{AreSides};
 use crate::builder::Builder;
 use crate::sorts::value_of;
 use alg_expr::{ExprId, Memory, Sort, Stmt, Sym};
+use smallvec::SmallVec;
 
-// the left sides and the right sides of lines
+// the left sides and the right sides of lines: of a short list in place
 #[derive(Drop)]
 struct Sides {
-    lefts: Vec<ExprId>,
-    rights: Vec<ExprId>,
+    lefts: SmallVec<ExprId, 4>,
+    rights: SmallVec<ExprId, 4>,
 }
 
 impl Builder {
@@ -39,8 +40,8 @@ impl Builder {
         requires { All (IsEquation self.now) parts.now }
         ensures { IfOk result (λ s. AreSides self.now parts.now s.lefts.items s.rights.items) }
     {
-        let mut lefts: Vec<ExprId> = Vec::with_capacity(self.alloc(), parts.len())?;
-        let mut rights: Vec<ExprId> = Vec::with_capacity(self.alloc(), parts.len())?;
+        let mut lefts: SmallVec<ExprId, 4> = SmallVec::with_capacity(self.alloc(), parts.len())?;
+        let mut rights: SmallVec<ExprId, 4> = SmallVec::with_capacity(self.alloc(), parts.len())?;
         for i in parts {
             let s = self.concluded(*i);
             lefts.push(s.lhs)?;

@@ -2,6 +2,7 @@ ghost use Rattle.std.specs.Prelude.{◌≡◌, [], ◌∷◌, MatchOption, optio
 ghost use Rattle.alg_certificate.specs.Cutting.{after, cut};
 
 // The first byte, and the rest.
+#[inline(always)]
 pub(crate) fn split(bytes: &[u8]) -> Option<(u8, &[u8])>
     ensures { MatchOption result (bytes.now ≡ []) (λ x. bytes.now ≡ x.0 ∷ x.1.now) }
 {
@@ -12,6 +13,7 @@ pub(crate) fn split(bytes: &[u8]) -> Option<(u8, &[u8])>
 }
 
 /// What follows a front.
+#[inline(always)]
 pub fn after<'a>(front: &[u8], bytes: &'a [u8]) -> Option<&'a [u8]>
     ensures { option_map {U = List ℕ} (λ x. x.now) result ≡ after front.now bytes.now }
 {

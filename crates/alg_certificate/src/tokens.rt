@@ -17,13 +17,22 @@ pub enum Token<'a> {
     Word(&'a [u8]),
 }
 
+// The letters are asked for first: most bytes of a line's words are such.
+#[inline(always)]
 fn is_word(byte: u8) -> bool
     ensures { result ≡ is_word byte }
 {
-    matches!(byte, b'0'..=b'9' | b'a'..=b'z' | b'@'..=b'Z' | b'_' | b'-')
+    if byte >= b'a' {
+        byte <= b'z'
+    } else if byte <= b'9' {
+        byte >= b'0' || byte == b'-'
+    } else {
+        byte >= b'@' && (byte <= b'Z' || byte == b'_')
+    }
 }
 
 // How long the word at the front is.
+#[inline(always)]
 fn word_length(bytes: &[u8]) -> usize
     ensures { result ≡ length (front bytes.now) }
 {
@@ -40,6 +49,7 @@ fn word_length(bytes: &[u8]) -> usize
 }
 
 /// The word at the front, and what follows it.
+#[inline(always)]
 pub fn cut_word(bytes: &[u8]) -> Option<(&[u8], &[u8])>
     ensures { option_map {U = List ℕ × List ℕ} (λ x. (x.0.now, x.1.now)) result ≡ (if begins_word bytes.now then Some (front bytes.now, behind bytes.now) else None) }
 {
@@ -50,6 +60,7 @@ pub fn cut_word(bytes: &[u8]) -> Option<(&[u8], &[u8])>
     Some(bytes.split_at(count))
 }
 
+#[inline(always)]
 fn read_name(bytes: &[u8]) -> Option<(Token, &[u8])>
     ensures { read_seen result ≡ word_then name_then bytes.now }
 {
@@ -57,6 +68,7 @@ fn read_name(bytes: &[u8]) -> Option<(Token, &[u8])>
     Some((Token::Word(word), rest))
 }
 
+#[inline(always)]
 fn read_open(bytes: &[u8]) -> Option<(Token, &[u8])>
     ensures { read_seen result ≡ word_then open_then bytes.now }
 {
@@ -64,6 +76,7 @@ fn read_open(bytes: &[u8]) -> Option<(Token, &[u8])>
     Some((Token::Open(word), rest))
 }
 
+#[inline(always)]
 fn read_literal(bytes: &[u8]) -> Option<(Token, &[u8])>
     ensures { read_seen result ≡ word_then lit_then bytes.now }
 {
@@ -76,6 +89,7 @@ fn read_literal(bytes: &[u8]) -> Option<(Token, &[u8])>
     Some((Token::Lit(word, value), rest))
 }
 
+#[inline(always)]
 fn read_variable(bytes: &[u8]) -> Option<(Token, &[u8])>
     ensures { read_seen result ≡ number_then (λ k. Var k) bytes.now }
 {
@@ -85,6 +99,7 @@ fn read_variable(bytes: &[u8]) -> Option<(Token, &[u8])>
 
 /// The first token, and what follows it.
 #[tactic(auto, unfolding(crate::specs::Tokens::read_token))]
+#[inline(always)]
 pub fn next_token(bytes: &[u8]) -> Option<(Token, &[u8])>
     ensures { read_seen result ≡ read_token bytes.now }
 {

@@ -59,6 +59,7 @@ fn is_semicolon_slot(slot: Slot) -> bool
 }
 
 // Whether an item of this kind may begin with the token.
+#[inline(always)]
 fn fits(slot: Slot, token: Token) -> bool
     ensures { result ≡ fits slot (seen token.entry) }
 {
@@ -66,14 +67,15 @@ fn fits(slot: Slot, token: Token) -> bool
         Token::Blank => false,
         Token::Close => false,
         Token::Semi => is_semicolon_slot(slot),
-        Token::Open(word) => is_tree_slot(slot) & is_symbol(word),
-        Token::Lit(word, _) => is_tree_slot(slot) & is_sort(word),
+        Token::Open(word) => is_tree_slot(slot) && is_symbol(word),
+        Token::Lit(word, _) => is_tree_slot(slot) && is_sort(word),
         Token::Var(_) => is_tree_slot(slot),
         Token::Word(word) => word_fits(slot, word),
     }
 }
 
 // The parts that are left after the item that begins with the token.
+#[inline(always)]
 fn first_fit(parts: &'static [Part], token: Token) -> Option<&'static [Part]>
     ensures { option_map {U = List Part} (λ x. x.now) result ≡ first_fit parts.now (seen token.entry) }
 {
@@ -114,6 +116,7 @@ fn opens(token: Token) -> bool
     matches!(token, Token::Open(_))
 }
 
+#[inline(always)]
 fn begun(parts: &'static [Part], token: Token) -> Option<Standing>
     ensures { option_map {U = Standing} (λ x. (x.0, x.1, x.2.now)) result ≡ begun (seen token.entry) (first_fit parts.now (seen token.entry)) }
 {
@@ -135,6 +138,7 @@ fn closed(depth: usize, parts: &'static [Part]) -> Option<Standing>
     }
 }
 
+#[inline(always)]
 fn in_tree(depth: usize, parts: &'static [Part], token: Token) -> Option<Standing>
     requires { depth + 1 < 2 ^ 64 }
     ensures { option_map {U = Standing} (λ x. (x.0, x.1, x.2.now)) result ≡ in_tree depth parts.now (seen token.entry) }
@@ -159,6 +163,7 @@ fn in_tree(depth: usize, parts: &'static [Part], token: Token) -> Option<Standin
     }
 }
 
+#[inline(always)]
 fn after_tree(depth: usize, parts: &'static [Part], token: Token) -> Option<Standing>
     ensures { option_map {U = Standing} (λ x. (x.0, x.1, x.2.now)) result ≡ after_tree depth parts.now (seen token.entry) }
 {
@@ -169,6 +174,7 @@ fn after_tree(depth: usize, parts: &'static [Part], token: Token) -> Option<Stan
     }
 }
 
+#[inline(always)]
 fn at_blank(spot: Spot, depth: usize, parts: &'static [Part], token: Token) -> Option<Standing>
     ensures { option_map {U = Standing} (λ x. (x.0, x.1, x.2.now)) result ≡ at_blank spot depth parts.now (seen token.entry) }
 {
@@ -178,6 +184,7 @@ fn at_blank(spot: Spot, depth: usize, parts: &'static [Part], token: Token) -> O
     }
 }
 
+#[inline(always)]
 fn moved(spot: Spot, depth: usize, parts: &'static [Part], token: Token) -> Option<Standing>
     requires { depth + 1 < 2 ^ 64 }
     ensures { option_map {U = Standing} (λ x. (x.0, x.1, x.2.now)) result ≡ moved spot depth parts.now (seen token.entry) }
@@ -203,7 +210,7 @@ fn may_stop_at(spot: Spot, parts: &[Part]) -> bool
 fn is_over(left: &[u8], spot: Spot, parts: &[Part]) -> bool
     ensures { result ≡ (is_empty left.now && may_stop_at spot parts.now) }
 {
-    left.is_empty() & may_stop_at(spot, parts)
+    left.is_empty() && may_stop_at(spot, parts)
 }
 
 // Whether the text is items that these parts allow. Takes no memory.

@@ -7,6 +7,7 @@ use crate::bytes::{after, split};
 use crate::numbers::read_number;
 
 /// Whether the word is this one.
+#[inline(always)]
 pub fn is_word_of(wanted: &[u8], word: &[u8]) -> bool
     ensures { result ≡ is_word_of wanted.now word.now }
 {
@@ -29,7 +30,7 @@ fn is_positive(word: &[u8]) -> bool
     ensures { result ≡ is_positive word.now }
 {
     match read_number(word) {
-        Some((number, rest)) => rest.is_empty() & (number != 0),
+        Some((number, rest)) => rest.is_empty() && number != 0,
         None => false,
     }
 }
@@ -56,81 +57,81 @@ fn is_negative(word: &[u8]) -> bool
 pub(crate) fn is_numeral(word: &[u8]) -> bool
     ensures { result ≡ is_numeral word.now }
 {
-    is_number(word) | is_negative(word)
+    is_number(word) || is_negative(word)
 }
 
 pub(crate) fn is_sort(word: &[u8]) -> bool
     ensures { result ≡ is_sort word.now }
 {
     is_word_of(b"N", word)
-        | (is_word_of(b"Z", word) | (is_word_of(b"Q", word) | is_numbered(b"t", word)))
+        || (is_word_of(b"Z", word) || (is_word_of(b"Q", word) || is_numbered(b"t", word)))
 }
 
 fn is_sum_word(word: &[u8]) -> bool
     ensures { result ≡ is_sum_word word.now }
 {
     is_word_of(b"add", word)
-        | (is_word_of(b"mul", word)
-            | (is_word_of(b"neg", word)
-                | (is_word_of(b"sub", word)
-                    | (is_word_of(b"inv", word) | is_word_of(b"div", word)))))
+        || (is_word_of(b"mul", word)
+            || (is_word_of(b"neg", word)
+                || (is_word_of(b"sub", word)
+                    || (is_word_of(b"inv", word) || is_word_of(b"div", word)))))
 }
 
 fn is_power_word(word: &[u8]) -> bool
     ensures { result ≡ is_power_word word.now }
 {
     is_word_of(b"npow", word)
-        | (is_word_of(b"zpow", word) | (is_word_of(b"nsmul", word) | is_word_of(b"zsmul", word)))
+        || (is_word_of(b"zpow", word) || (is_word_of(b"nsmul", word) || is_word_of(b"zsmul", word)))
 }
 
 fn is_order_word(word: &[u8]) -> bool
     ensures { result ≡ is_order_word word.now }
 {
-    is_word_of(b"abs", word) | (is_word_of(b"min", word) | is_word_of(b"max", word))
+    is_word_of(b"abs", word) || (is_word_of(b"min", word) || is_word_of(b"max", word))
 }
 
 fn is_natural_word(word: &[u8]) -> bool
     ensures { result ≡ is_natural_word word.now }
 {
     is_word_of(b"natsub", word)
-        | (is_word_of(b"idiv", word)
-            | (is_word_of(b"mod", word)
-                | (is_word_of(b"gcd", word)
-                    | (is_word_of(b"lcm", word)
-                        | (is_word_of(b"fact", word)
-                            | (is_word_of(b"choose", word) | is_word_of(b"fib", word)))))))
+        || (is_word_of(b"idiv", word)
+            || (is_word_of(b"mod", word)
+                || (is_word_of(b"gcd", word)
+                    || (is_word_of(b"lcm", word)
+                        || (is_word_of(b"fact", word)
+                            || (is_word_of(b"choose", word) || is_word_of(b"fib", word)))))))
 }
 
 pub(crate) fn is_symbol(word: &[u8]) -> bool
     ensures { result ≡ is_symbol word.now }
 {
     is_sum_word(word)
-        | (is_power_word(word)
-            | (is_order_word(word) | (is_natural_word(word) | is_numbered(b"@", word))))
+        || (is_power_word(word)
+            || (is_order_word(word) || (is_natural_word(word) || is_numbered(b"@", word))))
 }
 
 pub(crate) fn is_comparison(word: &[u8]) -> bool
     ensures { result ≡ is_comparison word.now }
 {
-    is_word_of(b"ne", word) | (is_word_of(b"lt", word) | is_word_of(b"le", word))
+    is_word_of(b"ne", word) || (is_word_of(b"lt", word) || is_word_of(b"le", word))
 }
 
 pub(crate) fn is_relation(word: &[u8]) -> bool
     ensures { result ≡ is_relation word.now }
 {
-    is_word_of(b"eq", word) | (is_word_of(b"dvd", word) | is_comparison(word))
+    is_word_of(b"eq", word) || (is_word_of(b"dvd", word) || is_comparison(word))
 }
 
 pub(crate) fn is_bridge(word: &[u8]) -> bool
     ensures { result ≡ is_bridge word.now }
 {
-    is_word_of(b"smul", word) | (is_word_of(b"zsmul", word) | is_word_of(b"zpow", word))
+    is_word_of(b"smul", word) || (is_word_of(b"zsmul", word) || is_word_of(b"zpow", word))
 }
 
 pub(crate) fn is_head(word: &[u8]) -> bool
     ensures { result ≡ is_head word.now }
 {
-    is_word_of(b"dvd", word) | is_symbol(word)
+    is_word_of(b"dvd", word) || is_symbol(word)
 }
 
 fn is_name_byte(byte: u8) -> bool
@@ -157,7 +158,7 @@ pub fn is_name(word: &[u8]) -> bool
     ensures { result ≡ is_name word.now }
 {
     match split(word) {
-        Some((byte, rest)) => is_name_byte(byte) & are_name_bytes(rest),
+        Some((byte, rest)) => is_name_byte(byte) && are_name_bytes(rest),
         None => false,
     }
 }

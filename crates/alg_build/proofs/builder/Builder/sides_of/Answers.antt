@@ -9,6 +9,6 @@ concluded-s-requires c = part_there c.args.self.now c.args.parts.now c.loop-i.i-
 
 pub loop-i-preserved : goal.loop-i-preserved
 loop-i-preserved c =
-    rw (c.in_ok-push.ensures.items, c.in_ok-push-2.ensures.items)
+    rw (c.in_ok-push.ensures.ok, c.in_ok-push-2.ensures.ok)
     (sides_next c.args.self.now c.args.parts.now c.loop-i.i-index _ c.loop-i.lefts.items c.loop-i.rights.items c.concluded-s.result c.loop-i-test.true c.loop-i.invariant c.concluded-s.ensures.here c.concluded-s.ensures.statement
     c.concluded-s.ensures.fine.statement)
