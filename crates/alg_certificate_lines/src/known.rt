@@ -1,6 +1,5 @@
-ghost use Rattle.std.specs.Prelude.{◌≡◌, List, Some, None, slice_get};
+ghost use Rattle.std.specs.Prelude.{◌≡◌, List, Some, None};
 ghost use Rattle.alg_terms.specs.Tree.{Tree};
-ghost use Rattle.alg_law.specs.WellSorted.{variable_of};
 ghost use Rattle.alg_proof.specs.Steps.{name_mark};
 ghost use Rattle.alg_certificate.specs.Seen.{seen};
 ghost use Rattle.alg_certificate.specs.Lexed.{tokens};
@@ -11,7 +10,7 @@ use crate::symbols::symbol_named;
 use crate::words::sort_named;
 use alg_certificate::tokens::{Token, next_token};
 use alg_expr::{Sort, Sym};
-use alg_law::{Base, Declared, Mark, mark_for_sort};
+use alg_law::{Base, Mark, mark_for_sort};
 
 pub(crate) fn is_good(mark: Mark) -> bool
     ensures { result ≡ is_good mark }
@@ -47,22 +46,12 @@ pub(crate) fn has_symbol(base: &Base, word: &[u8]) -> bool
     }
 }
 
-fn sort_of_variable(base: &Base, k: u32) -> Option<Sort>
-    ensures { result ≡ variable_of (slice_get base.now k) }
-{
-    let declared = base.declarations();
-    match declared.list.get(k as usize) {
-        Some(Declared::Variable { sort, .. }) => Some(*sort),
-        _ => None,
-    }
-}
-
 /// The sort of the variable with this number.
 pub fn variable_sort(base: &Base, number: u128) -> Option<Sort>
     ensures { result ≡ variable_sort base.now number }
 {
     if number < 4_294_967_296 {
-        sort_of_variable(base, number as u32)
+        base.variable(number as u32)
     } else {
         None
     }

@@ -2,7 +2,6 @@ pub mod TreeLemmas
 pub mod SideLemmas
 pub mod PremiseLemmas
 pub mod CongLemmas
-pub mod NthLemmas
 pub mod FillingLemmas
 pub mod BridgeLemmas
 pub mod NumeralLemmas

@@ -5,7 +5,6 @@ pub mod Following
 pub mod Growing
 pub mod Having
 pub mod HavingLaws
-pub mod Keeping
 pub mod Lawful
 pub mod Looking
 pub mod Marks
@@ -43,3 +42,10 @@ pub mod TrueRingLaws
 pub mod TrueOrderLaws
 pub mod TrueOrderedRingLaws
 pub mod NoFalseLaw
+pub mod Lending
+pub mod Places
+pub mod Firsts
+pub mod Masks
+pub mod Noting
+pub mod Indexing
+pub mod Prefixes

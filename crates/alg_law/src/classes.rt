@@ -29,7 +29,7 @@ pub enum Class {
 }
 
 impl Class {
-    fn number(self) -> u8
+    pub(crate) fn number(self) -> u8
         ensures { result ≡ class_key self }
     {
         match self {

@@ -5,25 +5,35 @@ mod additive_laws;
 pub mod base;
 pub mod classes;
 mod combo;
+pub mod copies;
 pub mod declarations;
+pub mod growing;
+mod index;
 mod law_table;
 pub mod law_words;
+pub mod lending;
 pub mod marks;
+mod masks;
 mod multiplicative_laws;
 mod order_laws;
 mod ordered_ring_laws;
 pub mod patterns;
 mod ring_laws;
 pub mod rows;
+pub mod shared;
 
-pub use base::{Base, Declarations, Signature, has};
+pub use base::{Base, Signature, has};
 pub use classes::Class;
 pub use combo::{Combo, ComboStep};
+pub use copies::{Copies, Declarations};
 pub use declarations::Declared;
+pub use growing::Growing;
 pub use law_table::{law_named, laws};
+pub use lending::{Given, Lent};
 pub use marks::{Mark, mark_for, mark_for_head, mark_for_sort, relates, worse_of};
 pub use patterns::{Pat, PatSort, PatStmt};
 pub use rows::{Law, Need};
+pub use shared::Shared;
 
 #[cfg(test)]
 mod tests;

@@ -1,19 +1,17 @@
-use Rattle.std.proofs.Common.{◌++◌, ◌∙◌, List, ap, sym, subst}
-use Rattle.alg_law.specs.Declarations.{Declaration, declarations_of}
-use Rattle.alg_law.specs.Following.{AllMayFollow}
-use Rattle.alg_law.proofs.KeepingLaws.{prefix-may_follow, prefix-kept}
+use Rattle.std.proofs.Common.{◌≡◌, ◌∙◌, ap, subst, sym, List, length, take, arith, rules}
+use Rattle.std.proofs.lemmas.List.{length-map}
+use Rattle.alg_law.specs.Declarations.{Declaration, declaration_of, declarations_of, hypotheses}
+use Rattle.alg_law.specs.Prefixes.{IsLending}
+use Rattle.alg_law.proofs.PrefixLemmas.{IsLending-joined}
 use Rattle.alg_law.proofs.base.Base.joined.Goals as goal
 
-pub keep_all-requires-clause-fit : goal.keep_all-requires-clause-fit
-keep_all-requires-clause-fit c =
-    prefix-may_follow c.shared.inside.arena c.shared.inside.declared.items c.deref.result.now c.args.prefix c.in_ok-base.base c.in_ok-base.ensures c.deref.ensures.value c.shared.invariant.well_formed
-
-pub keep_all-requires-2-clause-fit : goal.keep_all-requires-2-clause-fit
-keep_all-requires-2-clause-fit c =
-    let kept = prefix-kept c.shared.inside.arena c.shared.inside.declared.items c.deref.result.now c.args.prefix c.in_ok-base.base c.args.shared.now c.keep_all.new.self c.in_ok-base.ensures c.deref.ensures.value c.shared.view_is c.in_ok-keep_all.ensures.ok in
-    subst (λ (x : List Declaration). AllMayFollow x (declarations_of c.args.from.now c.args.local.now)) (sym kept) c.requires.fit
-
-pub returns : goal.returns
-returns c =
-    let kept = prefix-kept c.shared.inside.arena c.shared.inside.declared.items c.deref.result.now c.args.prefix c.in_ok-base.base c.args.shared.now c.keep_all.new.self c.in_ok-base.ensures c.deref.ensures.value c.shared.view_is c.in_ok-keep_all.ensures.ok in
-    c.in_ok-keep_all-2.ensures.ok ∙ ap (λ (x : List Declaration). x ++ declarations_of c.args.from.now c.args.local.now) kept
+pub invariant_of-result : goal.invariant_of-result
+invariant_of-result c =
+    let ds = c.args.shared.now in
+    let es = declarations_of c.args.from.now c.args.local.now in
+    let v : c.in_ok-lend.field-0 ≡ ds = c.in_ok-lend.ensures in
+    let l : c.push_all.new.self ≡ es = search rules in
+    let g : c.count-given.result ≡ length (hypotheses (take c.args.prefix ds)) = c.count-given.ensures ∙ ap (λ x. length (hypotheses (take c.args.prefix x))) c.declared.ensures in
+    subst (λ (x : List Declaration). IsLending x c.args.prefix c.count-given.result c.push_all.new.self) (sym v)
+    (subst (λ (x : List Declaration). IsLending ds c.args.prefix c.count-given.result x) (sym l)
+    (IsLending-joined ds es c.args.prefix c.count-given.result c.requires.within (omega (arith, length-map c.args.local.now (declaration_of c.args.from.now))) g c.len-declarations.ensures.well_formed c.requires.fit))

@@ -1,7 +1,7 @@
 use Rattle.std.proofs.Common.{◌≡◌, ◌++◌, take, drop}
 use Rattle.alg_law.specs.Declarations.{declarations_of}
 use Rattle.alg_law.specs.Following.{AllMayFollow}
-use Rattle.alg_law.proofs.base.Base.keep_all.Given as goal
+use Rattle.alg_law.proofs.growing.Growing.push_all.Given as goal
 
 abbrev pub invariant-loop-d : goal.invariant-loop-d
 invariant-loop-d l =

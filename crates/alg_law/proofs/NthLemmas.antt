@@ -5,7 +5,7 @@ use Rattle.alg_expr.specs.declared.ids.Stmt.{Stmt}
 use Rattle.alg_expr.specs.Ids.{statement_of}
 use Rattle.alg_law.specs.declared.declarations.Declared.{Declared}
 use Rattle.alg_law.specs.Declarations.{declarations_of, hypotheses}
-use Rattle.alg_kernel.specs.Answers.{TellsHypothesis}
+use Rattle.alg_law.specs.Lending.{TellsHypothesis}
 
 after : (h : Statement) (hs : List Statement) (k : ℕ) → (k ≡ 0 → ⊥) → slice_get (h ∷ hs) k ≡ slice_get hs (k - 1)
 after h hs zero n = absurd (n refl)

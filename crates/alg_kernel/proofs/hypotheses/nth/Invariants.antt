@@ -1,7 +1,0 @@
-use Rattle.std.proofs.Common.{◌≡◌, drop, slice_get}
-use Rattle.alg_law.specs.Declarations.{hypotheses, declarations_of}
-use Rattle.alg_proof.specs.Causes.{line_at}
-use Rattle.alg_kernel.proofs.hypotheses.nth.Given as goal
-
-abbrev pub invariant-loop-d : goal.invariant-loop-d
-invariant-loop-d l = slice_get (hypotheses (declarations_of l.arena (drop l.d-index l.list))) l.left ≡ line_at (hypotheses (declarations_of l.arena l.list)) l.number
