@@ -1,4 +1,3 @@
-pub mod Emit
+pub mod Steps
 pub mod Nodes
-pub mod Closing
 pub mod Making

@@ -12,7 +12,7 @@ use Rattle.alg_terms.specs.Tree.{Tree, Lit, App, of_list}
 use Rattle.alg_expr.specs.declared.ids.ExprId.{ExprId}
 use Rattle.alg_expr.specs.Ids.{trees_at, tree_of}
 use Rattle.alg_build.specs.Book.{Book, Grows}
-use Rattle.alg_build.proofs.Lines.{grows-proves}
+use Rattle.alg_build.proofs.Rewritings.{grows-turns}
 use Rattle.alg_normnum.specs.Values.{Value, NoValue, natural, applied, value, values}
 use Rattle.alg_normnum.specs.Found.{IsValued, AreValued}
 use Rattle.alg_normnum.specs.declared.norm.Valued.{Valued}
@@ -62,7 +62,7 @@ pub none_over : (f : Sym) (s : Sort) (ts : List Tree) (t : Tree) → t ≡ App f
 none_over f s ts t e h = ap value e ∙ ap (natural s) (applied_else f (values (of_list ts)) (λ k. h (sym (length-values ts) ∙ k))) ∙ natural-none s
 
 valued-grows : (a b : Book) (t : Tree) (v : Valued) → Grows a b → IsValued a t v → IsValued b t v
-valued-grows a b t (valued.Num n line) g h = record { value = h.value; small = h.small; proves = grows-proves a b line t (Lit Nat n) g h.proves }
+valued-grows a b t (valued.Num n r) g h = record { value = h.value; small = h.small; turns = grows-turns a b g Nat r t (Lit Nat n) h.turns }
 valued-grows a b t valued.Past g h = h
 valued-grows a b t valued.Unvalued g h = h
 

@@ -1,4 +1,3 @@
 pub mod Values
-pub mod Goals
 pub mod Found
 pub mod Made

@@ -7,6 +7,8 @@ use Rattle.alg_terms.specs.declared.relations.Rel.TheVariants.{Eq, Ne, Lt, Le, D
 use Rattle.alg_terms.specs.declared.symbols.Sym.{Sym}
 use Rattle.alg_terms.specs.declared.symbols.Sym.TheVariants.{Add, Mul}
 use Rattle.alg_terms.specs.Tree.{Tree, Lit, Var, App, Trees, Nil, Cons, Statement}
+use Rattle.alg_build.specs.Answer.{Answer, Closes, Fails}
+use Rattle.alg_build.specs.declared.outcome.TacFault.TheVariants.{NotThisGoal, OutOfRange, GoalFalse}
 
 -- a number, one that is past the range at some node, or none
 pub data Value : Type 0 where
@@ -50,22 +52,15 @@ abbrev mutual
   values Nil = []
   values (Cons x xs) = value x ∷ values xs
 
--- what norm_num is to answer; `NotThis` where it's no equation of ℕ whose trees have only literals, sums and products
-pub data Answer : Type 0 where
-  Closed : Answer
-  False : Answer
-  Range : Answer
-  NotThis : Answer
-
 -- the range is looked at before the values are compared
 abbrev pub compared : Value → Value → Answer
-compared (Num m) (Num n) = if nat_eq m n then Closed else False
-compared (Num m) Past = Range
-compared (Num m) NoValue = NotThis
-compared Past (Num n) = Range
-compared Past Past = Range
-compared Past NoValue = NotThis
-compared NoValue v = NotThis
+compared (Num m) (Num n) = if nat_eq m n then Closes else Fails GoalFalse
+compared (Num m) Past = Fails OutOfRange
+compared (Num m) NoValue = Fails NotThisGoal
+compared Past (Num n) = Fails OutOfRange
+compared Past Past = Fails OutOfRange
+compared Past NoValue = Fails NotThisGoal
+compared NoValue v = Fails NotThisGoal
 
 abbrev pub answer_of : (lhs rhs : Tree) → Answer
 answer_of l r = compared (value l) (value r)
@@ -73,13 +68,14 @@ answer_of l r = compared (value l) (value r)
 -- only equations of ℕ are answered
 abbrev pub equation : Rel → Sort → Answer → Answer
 equation Eq Nat a = a
-equation Eq Int a = NotThis
-equation Eq Rat a = NotThis
-equation Eq (Decl k) a = NotThis
-equation Ne s a = NotThis
-equation Lt s a = NotThis
-equation Le s a = NotThis
-equation Dvd s a = NotThis
+equation Eq Int a = Fails NotThisGoal
+equation Eq Rat a = Fails NotThisGoal
+equation Eq (Decl k) a = Fails NotThisGoal
+equation Ne s a = Fails NotThisGoal
+equation Lt s a = Fails NotThisGoal
+equation Le s a = Fails NotThisGoal
+equation Dvd s a = Fails NotThisGoal
 
-abbrev pub answer_to : Statement → Answer
-answer_to s = equation s.rel s.sort (answer_of s.lhs s.rhs)
+-- `NotThisGoal` where it's no equation of ℕ whose trees have only literals, sums and products
+abbrev pub norm_num_answer : Statement → Answer
+norm_num_answer s = equation s.rel s.sort (answer_of s.lhs s.rhs)

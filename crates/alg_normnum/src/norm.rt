@@ -1,25 +1,30 @@
-ghost use Rattle.std.specs.Prelude.{◌≡◌, ℕ, ◌+◌, ◌*◌, ◌<◌, ◌≤◌, ◌^◌, ◌++◌, [], ◌∷◌, length, OnErr, IfOk, IfSome, IsNone, ◌≢◌, ◌↔◌, IsTrue, IsFalse};
-ghost use Rattle.alg_terms.specs.Tree.{Lit, App, Cons, Nil, Statement, sum_tree, product_tree};
+ghost use Rattle.std.specs.Prelude.{◌≡◌, ℕ, ◌<◌, ◌≤◌, ◌^◌, ◌++◌, [], ◌∷◌, length, OnErr, IfOk, IfSome, IsNone, ◌≢◌, ◌↔◌, IsTrue, IsFalse};
+ghost use Rattle.alg_terms.specs.Tree.{Lit, App, Cons, Nil, sum_tree, product_tree};
 ghost use Rattle.alg_expr.specs.Ids.{tree_of, IsIn, statement_of, IsStatementIn};
-ghost use Rattle.alg_build.specs.Book.{Proves, IsEquation, Grows, LeavesLines, left_at, right_at};
-ghost use Rattle.alg_normnum.specs.Values.{answer_of, answer_to, equation, NotThis, Answer};
-ghost use Rattle.alg_normnum.specs.Goals.{Answers, Closes};
-ghost use Rattle.alg_normnum.specs.Found.{IsNumber, IsValued, AreValued, Meets};
+ghost use Rattle.alg_law.specs.WellSorted.{IsStatement};
+ghost use Rattle.alg_build.specs.Answer.{Answer, Fails, Gives, Leads};
+ghost use Rattle.alg_build.specs.Book.{Grows, LeavesLines};
+ghost use Rattle.alg_build.specs.declared.outcome.TacFault.TheVariants.{NotThisGoal};
+ghost use Rattle.alg_normnum.specs.Values.{answer_of, norm_num_answer, equation};
+ghost use Rattle.alg_normnum.specs.Found.{IsNumber, IsValued, AreValued};
 
-use alg_build::{Builder, Outcome, TacFault};
+use alg_build::{
+    Builder, Outcome, Rewriting, TacFault, close, keep, product_of_literals, sum_of_literals, then, under_two,
+};
 use alg_expr::{ExprId, Memory, Rel, Sort, Stmt, Sym, View};
 
 const LIMIT: u128 = 0x7fff_ffff_ffff_ffff_ffff_ffff_ffff_ffff;
 
-/// The value of a tree, with the number of a line that concludes it.
+/// The value of a tree, with the rewriting to it.
 #[derive(Clone, Copy)]
 enum Valued {
-    Num { value: u128, line: usize },
+    Num { value: u128, by: Rewriting },
     Past,
     Unvalued,
 }
 
 // a literal, which is its own value
+#[tactic(auto, using(crate::proofs::Steps::steps))]
 fn literal(cx: &mut Builder, e: ExprId, value: u128) -> Result<Valued, Memory>
     requires here { IsIn cx.old.trees e }
     requires tree { tree_of cx.old.trees e ≡ Lit Sort.Nat value }
@@ -29,22 +34,23 @@ fn literal(cx: &mut Builder, e: ExprId, value: u128) -> Result<Valued, Memory>
     if value > LIMIT {
         return Ok(Valued::Past);
     }
-    let line = cx.refl(e)?;
-    Ok(Valued::Num { value, line })
+    let by = keep(cx, e);
+    Ok(Valued::Num { value, by })
 }
 
 // both parts as numbers, and then their sum
+#[tactic(auto, using(alg_build::proofs::Lines::lines))]
 fn sum(
     cx: &mut Builder,
     a: ExprId,
     m: u128,
-    i: usize,
+    r: Rewriting,
     b: ExprId,
     n: u128,
-    j: usize,
+    s: Rewriting,
 ) -> Result<Valued, Memory>
-    requires left { IsNumber cx.old (tree_of cx.old.trees a) m i }
-    requires right { IsNumber cx.old (tree_of cx.old.trees b) n j }
+    requires left { IsNumber cx.old (tree_of cx.old.trees a) m r }
+    requires right { IsNumber cx.old (tree_of cx.old.trees b) n s }
     ensures valued { IfOk result (λ v. IsValued cx.new (sum_tree Sort.Nat (tree_of cx.old.trees a) (tree_of cx.old.trees b)) v) }
     ensures grows { Grows cx.old cx.new }
 {
@@ -52,24 +58,25 @@ fn sum(
     if total > LIMIT {
         return Ok(Valued::Past);
     }
-    let parts = cx.cong(Sym::Add, &[i, j])?;
-    let law = cx.lit_add(Sort::Nat, m, n)?;
-    let line = cx.trans(parts, law)?;
-    Ok(Valued::Num { value: total, line })
+    let parts = under_two(cx, Sym::Add, Sort::Nat, r, s)?;
+    let law = sum_of_literals(cx, Sort::Nat, m, n)?;
+    let by = then(cx, parts, law)?;
+    Ok(Valued::Num { value: total, by })
 }
 
 // both parts as numbers, and then their product
+#[tactic(auto, using(alg_build::proofs::Lines::lines))]
 fn product(
     cx: &mut Builder,
     a: ExprId,
     m: u128,
-    i: usize,
+    r: Rewriting,
     b: ExprId,
     n: u128,
-    j: usize,
+    s: Rewriting,
 ) -> Result<Valued, Memory>
-    requires left { IsNumber cx.old (tree_of cx.old.trees a) m i }
-    requires right { IsNumber cx.old (tree_of cx.old.trees b) n j }
+    requires left { IsNumber cx.old (tree_of cx.old.trees a) m r }
+    requires right { IsNumber cx.old (tree_of cx.old.trees b) n s }
     ensures valued { IfOk result (λ v. IsValued cx.new (product_tree Sort.Nat (tree_of cx.old.trees a) (tree_of cx.old.trees b)) v) }
     ensures grows { Grows cx.old cx.new }
 {
@@ -77,10 +84,10 @@ fn product(
         Some(total) if total <= LIMIT => {}
         _ => return Ok(Valued::Past),
     }
-    let parts = cx.cong(Sym::Mul, &[i, j])?;
-    let law = cx.lit_mul(Sort::Nat, m, n)?;
-    let line = cx.trans(parts, law)?;
-    Ok(Valued::Num { value: m * n, line })
+    let parts = under_two(cx, Sym::Mul, Sort::Nat, r, s)?;
+    let law = product_of_literals(cx, Sort::Nat, m, n)?;
+    let by = then(cx, parts, law)?;
+    Ok(Valued::Num { value: m * n, by })
 }
 
 fn added(cx: &mut Builder, a: ExprId, x: Valued, b: ExprId, y: Valued) -> Result<Valued, Memory>
@@ -90,8 +97,8 @@ fn added(cx: &mut Builder, a: ExprId, x: Valued, b: ExprId, y: Valued) -> Result
     ensures grows { Grows cx.old cx.new }
 {
     match x {
-        Valued::Num { value: m, line: i } => match y {
-            Valued::Num { value: n, line: j } => sum(cx, a, m, i, b, n, j),
+        Valued::Num { value: m, by: r } => match y {
+            Valued::Num { value: n, by: s } => sum(cx, a, m, r, b, n, s),
             Valued::Past => Ok(Valued::Past),
             Valued::Unvalued => Ok(Valued::Unvalued),
         },
@@ -116,8 +123,8 @@ fn multiplied(
     ensures grows { Grows cx.old cx.new }
 {
     match x {
-        Valued::Num { value: m, line: i } => match y {
-            Valued::Num { value: n, line: j } => product(cx, a, m, i, b, n, j),
+        Valued::Num { value: m, by: r } => match y {
+            Valued::Num { value: n, by: s } => product(cx, a, m, r, b, n, s),
             Valued::Past => Ok(Valued::Past),
             Valued::Unvalued => Ok(Valued::Unvalued),
         },
@@ -222,53 +229,27 @@ fn all_values(cx: &mut Builder, count: usize) -> Result<Vec<Valued>, Memory>
     Ok(found)
 }
 
-// a line for l = r, where there are lines for l = v and r = v
-fn meet(cx: &mut Builder, i: usize, j: usize) -> Result<usize, Memory>
-    requires first { IsEquation cx.old i }
-    requires second { IsEquation cx.old j }
-    requires same { right_at cx.old i ≡ right_at cx.old j }
-    ensures proves { IfOk result (λ n. Proves cx.new n (left_at cx.old i) (left_at cx.old j)) }
-    ensures grows { Grows cx.old cx.new }
-{
-    let back = cx.symm(j)?;
-    cx.trans(i, back)
-}
-
-// a line for l = r, where both have this number
-fn equal_numbers(
-    cx: &mut Builder,
-    l: ExprId,
-    i: usize,
-    r: ExprId,
-    j: usize,
-    n: u128,
-) -> Result<usize, Memory>
-    requires left { IsNumber cx.old (tree_of cx.old.trees l) n i }
-    requires right { IsNumber cx.old (tree_of cx.old.trees r) n j }
-    ensures proves { IfOk result (λ k. Proves cx.new k (tree_of cx.old.trees l) (tree_of cx.old.trees r)) }
-    ensures grows { Grows cx.old cx.new }
-{
-    meet(cx, i, j)
-}
-
 // whether both sides have one value, and then a line that concludes the goal
-fn compare(cx: &mut Builder, goal: Stmt, x: Valued, y: Valued) -> Result<usize, TacFault>
+#[tactic(auto, using(crate::proofs::Steps::steps))]
+fn compare(cx: &mut Builder, goal: Stmt, x: Valued, y: Valued) -> Result<Outcome, TacFault>
+    requires here { IsStatementIn cx.old.trees goal }
+    requires sorted { IsStatement cx.old.theory.declarations (statement_of cx.old.trees goal) }
+    requires equation { goal.rel ≡ Rel.Eq }
+    requires natural { goal.sort ≡ Sort.Nat }
     requires left { IsValued cx.old (tree_of cx.old.trees goal.lhs) x }
     requires right { IsValued cx.old (tree_of cx.old.trees goal.rhs) y }
-    ensures answer { Meets result (answer_of (tree_of cx.old.trees goal.lhs) (tree_of cx.old.trees goal.rhs)) }
-    ensures closed { IfOk result (λ n. Proves cx.new n (tree_of cx.old.trees goal.lhs) (tree_of cx.old.trees goal.rhs)) }
+    ensures answer { Gives cx.new result (answer_of (tree_of cx.old.trees goal.lhs) (tree_of cx.old.trees goal.rhs)) }
+    ensures leads { IfOk result (λ o. Leads cx.new o (statement_of cx.old.trees goal)) }
     ensures grows { Grows cx.old cx.new }
 {
     match x {
-        Valued::Num { value: m, line: i } => match y {
-            Valued::Num { value: n, line: j } => {
+        Valued::Num { value: m, by: r } => match y {
+            Valued::Num { value: n, by: s } => {
                 if m != n {
                     return Err(TacFault::GoalFalse);
                 }
-                match equal_numbers(cx, goal.lhs, i, goal.rhs, j, m) {
-                    Ok(line) => Ok(line),
-                    Err(_) => Err(TacFault::Memory),
-                }
+                let line = close(cx, goal, r, s)?;
+                Ok(Outcome::Closed { line })
             }
             Valued::Past => Err(TacFault::OutOfRange),
             Valued::Unvalued => Err(TacFault::NotThisGoal),
@@ -281,18 +262,18 @@ fn compare(cx: &mut Builder, goal: Stmt, x: Valued, y: Valued) -> Result<usize, 
     }
 }
 
-#[tactic(auto, using(alg_build::proofs::Lines::lines))]
-fn attempt(cx: &mut Builder, goal: Stmt) -> Result<usize, TacFault>
-    requires { IsStatementIn cx.old.trees goal }
-    ensures answer { Meets result (answer_of (tree_of cx.old.trees goal.lhs) (tree_of cx.old.trees goal.rhs)) }
-    ensures closed { IfOk result (λ n. Proves cx.new n (tree_of cx.old.trees goal.lhs) (tree_of cx.old.trees goal.rhs)) }
+#[tactic(auto, using(crate::proofs::Steps::steps))]
+fn attempt(cx: &mut Builder, goal: Stmt) -> Result<Outcome, TacFault>
+    requires here { IsStatementIn cx.old.trees goal }
+    requires sorted { IsStatement cx.old.theory.declarations (statement_of cx.old.trees goal) }
+    requires equation { goal.rel ≡ Rel.Eq }
+    requires natural { goal.sort ≡ Sort.Nat }
+    ensures answer { Gives cx.new result (answer_of (tree_of cx.old.trees goal.lhs) (tree_of cx.old.trees goal.rhs)) }
+    ensures leads { IfOk result (λ o. Leads cx.new o (statement_of cx.old.trees goal)) }
     ensures grows { Grows cx.old cx.new }
 {
     let count = cx.arena().len();
-    let found = match all_values(cx, count) {
-        Ok(found) => found,
-        Err(_) => return Err(TacFault::Memory),
-    };
+    let found = all_values(cx, count)?;
     let x = found[goal.lhs.number()];
     let y = found[goal.rhs.number()];
     compare(cx, goal, x, y)
@@ -301,7 +282,7 @@ fn attempt(cx: &mut Builder, goal: Stmt) -> Result<usize, TacFault>
 // whether the goal is an equation of ℕ
 fn is_equation(goal: Stmt) -> bool
     ensures yes { IsTrue result → (goal.rel ≡ Rel.Eq) × (goal.sort ≡ Sort.Nat) }
-    ensures no { IsFalse result → (a : Answer) → equation goal.rel goal.sort a ≡ NotThis }
+    ensures no { IsFalse result → (a : Answer) → equation goal.rel goal.sort a ≡ Fails NotThisGoal }
 {
     matches!(goal.rel, Rel::Eq) && is_nat(goal.sort)
 }
@@ -309,10 +290,12 @@ fn is_equation(goal: Stmt) -> bool
 /// Closes an equation of ℕ whose sides have only literals, sums and products, by their values. `NotThisGoal` comes
 /// exactly where the goal is another. `OutOfRange` comes exactly where it is none, and a sum or product at some node is
 /// above 2^127 - 1, and else `GoalFalse` exactly where the values differ. After any fault the lines are as before.
+#[tactic(auto, using(crate::proofs::Steps::ending))]
 pub fn norm_num(cx: &mut Builder, goal: Stmt) -> Result<Outcome, TacFault>
-    requires { IsStatementIn cx.old.trees goal }
-    ensures answer { Answers result (answer_to (statement_of cx.old.trees goal)) }
-    ensures closed { IfOk result (λ o. Closes cx.new o (statement_of cx.old.trees goal)) }
+    requires here { IsStatementIn cx.old.trees goal }
+    requires sorted { IsStatement cx.old.theory.declarations (statement_of cx.old.trees goal) }
+    ensures answer { Gives cx.new result (norm_num_answer (statement_of cx.old.trees goal)) }
+    ensures leads { IfOk result (λ o. Leads cx.new o (statement_of cx.old.trees goal)) }
     ensures grows { Grows cx.old cx.new }
     ensures leaves { OnErr result (LeavesLines cx.old cx.new) }
 {
@@ -321,7 +304,7 @@ pub fn norm_num(cx: &mut Builder, goal: Stmt) -> Result<Outcome, TacFault>
     }
     let mark = cx.mark();
     match attempt(cx, goal) {
-        Ok(line) => Ok(Outcome::Closed { line }),
+        Ok(outcome) => Ok(outcome),
         Err(fault) => {
             cx.back_to(mark);
             Err(fault)

@@ -1,6 +1,6 @@
 ghost use Rattle.std.specs.Prelude.{◌≡◌, ◌<◌, ◌^◌, IfOk};
 ghost use Rattle.alg_build.specs.Book.{Grows};
-ghost use Rattle.alg_normnum.specs.Made.{IsNumeralIn};
+ghost use Rattle.alg_normnum.specs.Made.{IsNaturalIn};
 
 use crate::{Outcome, TacFault, norm_num};
 use alg_build::{Builder, Memory};
@@ -15,7 +15,7 @@ const TOP: u128 = 0x7fff_ffff_ffff_ffff_ffff_ffff_ffff_ffff;
 #[tactic(auto, using(crate::proofs::Making::making))]
 fn literal(cx: &mut Builder, n: u128) -> Result<ExprId, Memory>
     ensures grows { Grows cx.old cx.new }
-    ensures numeral { IfOk result (λ e. IsNumeralIn cx.new e) }
+    ensures natural { IfOk result (λ e. IsNaturalIn cx.new e) }
 {
     let value = n.min(TOP);
     cx.lit(Sort::Nat, value)
@@ -23,20 +23,20 @@ fn literal(cx: &mut Builder, n: u128) -> Result<ExprId, Memory>
 
 #[tactic(auto, using(crate::proofs::Making::making))]
 fn sum(cx: &mut Builder, a: ExprId, b: ExprId) -> Result<ExprId, Memory>
-    requires left { IsNumeralIn cx.old a }
-    requires right { IsNumeralIn cx.old b }
+    requires left { IsNaturalIn cx.old a }
+    requires right { IsNaturalIn cx.old b }
     ensures grows { Grows cx.old cx.new }
-    ensures numeral { IfOk result (λ e. IsNumeralIn cx.new e) }
+    ensures natural { IfOk result (λ e. IsNaturalIn cx.new e) }
 {
     cx.app(Sym::Add, Sort::Nat, &[a, b])
 }
 
 #[tactic(auto, using(crate::proofs::Making::making))]
 fn product(cx: &mut Builder, a: ExprId, b: ExprId) -> Result<ExprId, Memory>
-    requires left { IsNumeralIn cx.old a }
-    requires right { IsNumeralIn cx.old b }
+    requires left { IsNaturalIn cx.old a }
+    requires right { IsNaturalIn cx.old b }
     ensures grows { Grows cx.old cx.new }
-    ensures numeral { IfOk result (λ e. IsNumeralIn cx.new e) }
+    ensures natural { IfOk result (λ e. IsNaturalIn cx.new e) }
 {
     cx.app(Sym::Mul, Sort::Nat, &[a, b])
 }
@@ -45,7 +45,7 @@ fn product(cx: &mut Builder, a: ExprId, b: ExprId) -> Result<ExprId, Memory>
 #[tactic(auto, using(crate::proofs::Making::making))]
 fn two_factors(cx: &mut Builder, l: u128, m: u128) -> Result<ExprId, Memory>
     ensures grows { Grows cx.old cx.new }
-    ensures numeral { IfOk result (λ e. IsNumeralIn cx.new e) }
+    ensures natural { IfOk result (λ e. IsNaturalIn cx.new e) }
 {
     let a = literal(cx, l)?;
     let b = literal(cx, m)?;
@@ -55,31 +55,18 @@ fn two_factors(cx: &mut Builder, l: u128, m: u128) -> Result<ExprId, Memory>
 // the first and n
 #[tactic(auto, using(crate::proofs::Making::making))]
 fn plus(cx: &mut Builder, a: ExprId, n: u128) -> Result<ExprId, Memory>
-    requires { IsNumeralIn cx.old a }
+    requires { IsNaturalIn cx.old a }
     ensures grows { Grows cx.old cx.new }
-    ensures numeral { IfOk result (λ e. IsNumeralIn cx.new e) }
+    ensures natural { IfOk result (λ e. IsNaturalIn cx.new e) }
 {
     let b = literal(cx, n)?;
     sum(cx, a, b)
 }
 
-// 0 + 1 + 1 + .., so many times
-#[tactic(auto, using(crate::proofs::Making::making))]
-fn ones(cx: &mut Builder, times: usize) -> Result<ExprId, Memory>
-    ensures grows { Grows cx.old cx.new }
-    ensures numeral { IfOk result (λ e. IsNumeralIn cx.new e) }
-{
-    let mut total = literal(cx, 0)?;
-    for _ in 0..times {
-        total = plus(cx, total, 1)?;
-    }
-    Ok(total)
-}
-
 // what is answered to the goal that the tree equals r, and whether the lines are then as many as before or more
 #[tactic(auto, using(crate::proofs::Making::making))]
 fn answer(cx: &mut Builder, left: ExprId, r: u128) -> Result<&'static str, Memory>
-    requires { IsNumeralIn cx.old left }
+    requires { IsNaturalIn cx.old left }
 {
     let right = literal(cx, r)?;
     let goal = Stmt {
@@ -136,16 +123,6 @@ fn answers_to_small_goals(rt: HostRuntime) -> Result<(), Memory> {
             want,
             "{l} * {m} + {n} = {r}"
         );
-    }
-    Ok(())
-}
-
-#[test]
-fn a_long_sum(rt: HostRuntime) -> Result<(), Memory> {
-    for (times, r, want) in [(1_000, 1_000, "closed"), (1_000, 999, "goal is false")] {
-        let mut cx = empty(rt.alloc())?;
-        let left = ones(&mut cx, times)?;
-        assert_eq!(rt; answer(&mut cx, left, r)?, want);
     }
     Ok(())
 }

@@ -1,7 +1,6 @@
-use Rattle.std.proofs.Common.{◌∙◌, ap}
-use Rattle.alg_law.specs.WellSorted.{mark_of}
-use Rattle.alg_normnum.proofs.Emit.{literal_sorted}
+use Rattle.std.proofs.Common.{arith}
+use Rattle.alg_normnum.proofs.Steps.{literal_number, literal_stands}
 use Rattle.alg_normnum.proofs.norm.literal.Goals as goal
 
-pub refl-requires-clause-sorted : goal.refl-requires-clause-sorted
-refl-requires-clause-sorted c = ap (mark_of c.args.cx.now.theory.declarations) c.requires.tree ∙ literal_sorted c.args.cx.now.theory.declarations c.args.value
+pub returns-clause-valued : goal.returns-clause-valued
+returns-clause-valued c = literal_number _ _ _ _ c.requires.tree (omega arith) (c.keep-by.ensures _ _ (literal_stands _ _ _ c.requires.here c.requires.tree))
