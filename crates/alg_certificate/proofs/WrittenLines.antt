@@ -9,10 +9,10 @@ use Rattle.alg_certificate.specs.Spelling.{goal_bytes}
 use Rattle.alg_certificate.specs.Reader.{TextLine, goal_line, given_line, proof_line, end_line, Coming, may_end, coming_at, after_header, coming_of}
 use Rattle.alg_certificate.specs.Items.{IsGivenText, IsProofText}
 use Rattle.alg_certificate.specs.Grammar.{HasNoFeed, IsTextOf, behind_line, header}
-use Rattle.alg_certificate.specs.PlainTexts.{proof_text_plain, given_text_plain, goal_plain, end_plain}
-use Rattle.alg_certificate.specs.CuttingLaws.{cut_feed, cut_none, after_whole}
-use Rattle.alg_certificate.specs.KindLaws.{line_complete}
-use Rattle.alg_certificate.specs.ComingLaws.{at_end, good_line}
+use Rattle.alg_certificate.proofs.PlainTexts.{proof_text_plain, given_text_plain, goal_plain, end_plain}
+use Rattle.alg_certificate.proofs.CuttingLaws.{cut_feed, cut_none, after_whole}
+use Rattle.alg_certificate.proofs.KindLaws.{line_complete}
+use Rattle.alg_certificate.proofs.ComingLaws.{at_end, good_line}
 
 -- a line's text
 abbrev pub line_bytes : TextLine → List ℕ

@@ -5,8 +5,8 @@ use Rattle.alg_certificate.specs.Numbers.{Read}
 use Rattle.alg_certificate.specs.Tokens.{Tok, Blank, Close, Semi, Open, Lit, Var, Word, token_bytes, Good, read_token}
 use Rattle.alg_certificate.specs.Spelling.{bytes}
 use Rattle.alg_certificate.specs.Lexed.{Lexed, with_token, tokens_by, tokens}
-use Rattle.alg_certificate.specs.LexingLaws.{IsFirst, token_sound, token_complete}
-use Rattle.alg_certificate.specs.ApartLaws.{Separated}
+use Rattle.alg_certificate.proofs.LexingLaws.{IsFirst, token_sound, token_complete}
+use Rattle.alg_certificate.proofs.ApartLaws.{Separated}
 
 some_byte : (t : Tok) → Good t → 0 < length (token_bytes t)
 some_byte Blank g = omega arith

@@ -14,11 +14,11 @@ use Rattle.alg_certificate.specs.Patterns.{pattern_of, row_of, given_pattern}
 use Rattle.alg_certificate.specs.Spelling.{Item, tree, word, semicolon, trees_before, numbers, numerals, bytes, spell_items, head_of, items_of, step_bytes, given_bytes, IsInRange, SortFits, TreeFits, HasOne, HasSpelling, StatementHasSpelling}
 use Rattle.alg_certificate.specs.Items.{AllFit, Matches, IsProofText, IsGivenText}
 use Rattle.alg_certificate.specs.Grammar.{HasNoFeed}
-use Rattle.alg_certificate.specs.Fitting.{number_fits, sort_fits, symbol_fits}
-use Rattle.alg_certificate.specs.SlotLaws.{NumeralFits, trees_then}
-use Rattle.alg_certificate.specs.SlotFitting.{relation_fits, comparison_fits, bridge_fits, head_fits, numeral_fits, numbers_fit, numerals_fit, trees_fit}
-use Rattle.alg_certificate.specs.PlainTexts.{proof_text_plain, given_text_plain}
-pub use Rattle.alg_certificate.specs.PlainTexts.{goal_plain, end_plain}
+use Rattle.alg_certificate.proofs.Fitting.{number_fits, sort_fits, symbol_fits}
+use Rattle.alg_certificate.proofs.SlotLaws.{NumeralFits, trees_then}
+use Rattle.alg_certificate.proofs.SlotFitting.{relation_fits, comparison_fits, bridge_fits, head_fits, numeral_fits, numbers_fit, numerals_fit, trees_fit}
+use Rattle.alg_certificate.proofs.PlainTexts.{proof_text_plain, given_text_plain}
+pub use Rattle.alg_certificate.proofs.PlainTexts.{goal_plain, end_plain}
 
 -- any number of items at the end
 ending : (s : Slot) (is : List Item) → AllFit s is → Matches (Many s ∷ []) is

@@ -16,10 +16,10 @@ use Rattle.alg_certificate.specs.Spelling.{goal_bytes}
 use Rattle.alg_certificate.specs.Items.{AreItems}
 use Rattle.alg_certificate.specs.Reader.{TextLine, goal_line, given_line, proof_line, end_line, of_number, of_pattern, of_word, of_goal, kind_of, line_in}
 use Rattle.alg_certificate.specs.Grammar.{IsTextOf, behind_line}
-use Rattle.alg_certificate.specs.NumberLaws.{number_complete, some_is}
-use Rattle.alg_certificate.specs.LexingLaws.{front_is, behind_is}
-use Rattle.alg_certificate.specs.Walkable.{allows_complete, items_quiet}
-use Rattle.alg_certificate.specs.FirstWords.{is_first}
+use Rattle.alg_certificate.proofs.NumberLaws.{number_complete, some_is}
+use Rattle.alg_certificate.proofs.LexingLaws.{front_is, behind_is}
+use Rattle.alg_certificate.proofs.Walkable.{allows_complete, items_quiet}
+use Rattle.alg_certificate.proofs.FirstWords.{is_first}
 
 begins_front : (w rest : List ℕ) → is_some_word w ≡ true → begins_word (w ++ rest) ≡ true
 begins_front [] rest e = cc

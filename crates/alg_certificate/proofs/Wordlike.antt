@@ -16,8 +16,8 @@ use Rattle.alg_certificate.specs.Tokens.{is_word, all_word, is_some_word}
 use Rattle.alg_certificate.specs.Words.{sort_bytes, symbol_bytes, is_number, ends_above, is_positive, then_positive, is_numeral, is_sort, is_symbol, is_relation, is_comparison, is_bridge, is_head, is_word_of}
 use Rattle.alg_certificate.specs.Spelling.{SortFits, SymbolFits}
 use Rattle.alg_certificate.specs.Walks.{word_fits}
-use Rattle.alg_certificate.specs.NumberLaws.{number_sound}
-use Rattle.alg_certificate.specs.WordLaws.{after_is, word_is, number_is, sort_is, symbol_is, either}
+use Rattle.alg_certificate.proofs.NumberLaws.{number_sound}
+use Rattle.alg_certificate.proofs.WordLaws.{after_is, word_is, number_is, sort_is, symbol_is, either}
 
 digit_word : (c : ℕ) → 48 ≤ c → c ≤ 57 → is_word c ≡ true
 digit_word c a b = rw (le-leb _ _ a, le-leb _ _ b) refl

@@ -20,7 +20,7 @@ use Rattle.alg_certificate_lines.specs.Known.{is_good, is_there, has_sort, has_s
 use Rattle.alg_certificate_lines.specs.Typed.{sorts, is_sorted, node_over, node_of, then_node, variable_of_sort, both, typed, typed_all}
 use Rattle.alg_certificate_lines.specs.Steps.{TreesRead, all_good, all_sorted, trees_read, over_trees, over_tree, if_named, has_head, step_read}
 use Rattle.alg_certificate_lines.specs.Given.{Read, sides, classed, sorted, over_typed, given_read}
-use Rattle.alg_certificate_lines.specs.HeadLaws.{good_same, number_below, number_kept, symbol_kept, head_is}
+use Rattle.alg_certificate_lines.proofs.HeadLaws.{good_same, number_below, number_kept, symbol_kept, head_is}
 
 -- sorts and symbols that are there
 type_below : (ds : List Declaration) (k : ℕ) (o : Option Declaration) → slice_get ds k ≡ o → length ds ≤ 2 ^ 32

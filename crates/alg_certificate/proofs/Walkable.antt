@@ -16,10 +16,10 @@ use Rattle.alg_certificate.specs.Words.{sort_bytes, symbol_bytes, is_sort, is_sy
 use Rattle.alg_certificate.specs.Spelling.{spell, spell_all, Item, tree, word, semicolon, spell_item, spell_items, IsSome, SortFits, SymbolFits, TreeFits, TreesFit, bytes}
 use Rattle.alg_certificate.specs.Walks.{Standing, is_tree_slot, is_semicolon_slot, word_fits, fits, first_fit, may_stop, opens, begun, go, walks, walks_all, allows}
 use Rattle.alg_certificate.specs.Items.{FitsSlot, AllFit, Matches, AreItems}
-use Rattle.alg_certificate.specs.ApartLaws.{Separated}
-use Rattle.alg_certificate.specs.TokenLaws.{tokens_complete}
-use Rattle.alg_certificate.specs.Fitting.{sort_fits, symbol_fits}
-use Rattle.alg_certificate.specs.Wordlike.{sort_word, symbol_word, fitting_word}
+use Rattle.alg_certificate.proofs.ApartLaws.{Separated}
+use Rattle.alg_certificate.proofs.TokenLaws.{tokens_complete}
+use Rattle.alg_certificate.proofs.Fitting.{sort_fits, symbol_fits}
+use Rattle.alg_certificate.proofs.Wordlike.{sort_word, symbol_word, fitting_word}
 
 -- a part for any number of items ends the line, or stands before a semicolon
 abbrev IsEnd : Slot → List Part → Type 0

@@ -9,7 +9,7 @@ use Rattle.alg_certificate.specs.Numbers.{Read, read_number, max_number}
 use Rattle.alg_certificate.specs.Cutting.{after, is_empty}
 use Rattle.alg_certificate.specs.Words.{sort_bytes, symbol_bytes, leaves_nothing, is_word_of, ends, is_number, then_number, is_sort, is_symbol, is_sum_word, is_power_word, is_order_word, is_natural_word}
 use Rattle.alg_certificate.specs.Spelling.{SortFits, SymbolFits}
-use Rattle.alg_certificate.specs.NumberLaws.{number_sound}
+use Rattle.alg_certificate.proofs.NumberLaws.{number_sound}
 
 is_by : (p : ℕ) (ps : List ℕ) (c : ℕ) (cs rest : List ℕ) (b : Bool) → (c == p) ≡ b → (after ps cs ≡ Some rest → cs ≡ ps ++ rest) → if◌then◌else◌ {A = Option (List ℕ)} b (after ps cs) None ≡ Some rest → c ∷ cs ≡ p ∷ (ps ++ rest)
 is_by p ps c cs rest false d ih e = absurd (none-some _ e)

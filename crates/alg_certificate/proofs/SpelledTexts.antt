@@ -13,9 +13,9 @@ use Rattle.alg_certificate.specs.Words.{sort_bytes, is_word_of}
 use Rattle.alg_certificate.specs.Patterns.{Pattern, pattern_of, short_pattern, literal_pattern, row_pattern, row_of}
 use Rattle.alg_certificate.specs.Spelling.{Item, tree, word, semicolon, trees_before, numbers, bytes, spell_items, head_of, items_of, step_bytes, given_bytes, IsInRange, SortFits, TreeFits, HasSpelling, StatementHasSpelling}
 use Rattle.alg_certificate.specs.Items.{Matches, IsProofText, IsGivenText}
-use Rattle.alg_certificate.specs.NumberLaws.{some_is}
-use Rattle.alg_certificate.specs.WordLaws.{word_is}
-use Rattle.alg_certificate.specs.SlotLaws.{Spelled, NumeralFits, tree_item, semicolon_item, number_item, sort_item, symbol_item, relation_item, comparison_item, name_item, bridge_item, head_item, numeral_item, number_items, numeral_items, tree_items, trees_then}
+use Rattle.alg_certificate.proofs.NumberLaws.{some_is}
+use Rattle.alg_certificate.proofs.WordLaws.{word_is}
+use Rattle.alg_certificate.proofs.SlotLaws.{Spelled, NumeralFits, tree_item, semicolon_item, number_item, sort_item, symbol_item, relation_item, comparison_item, name_item, bridge_item, head_item, numeral_item, number_items, numeral_items, tree_items, trees_then}
 
 -- a step that the text spells
 pub record SpellsStep (text : List ℕ) : Type 0 where

@@ -4,7 +4,7 @@ use Rattle.std.proofs.lemmas.Bool.{and_parts, and_from, or_parts, both_ways}
 use Rattle.std.proofs.lemmas.Option.{none-some, some_pair_parts}
 use Rattle.alg_certificate.specs.Numbers.{Read, is_digit, begins_digit, read_number, max_number}
 use Rattle.alg_certificate.specs.Tokens.{Tok, Blank, Close, Semi, Open, Lit, Var, Word, token_bytes, is_word, all_word, begins_word, is_some_word, Good, front, behind, word_then, number_then, colon_then, lit_then, open_then, name_then, token_at, read_token}
-use Rattle.alg_certificate.specs.NumberLaws.{some_is, number_sound, number_complete}
+use Rattle.alg_certificate.proofs.NumberLaws.{some_is, number_sound, number_complete}
 
 parts_by : (c : ℕ) (cs : List ℕ) (b : Bool) → front cs ++ behind cs ≡ cs → if◌then◌else◌ {A = List ℕ} b (c ∷ front cs) [] ++ if◌then◌else◌ {A = List ℕ} b (behind cs) (c ∷ cs) ≡ c ∷ cs
 parts_by c cs true e = ap (λ x. c ∷ x) e

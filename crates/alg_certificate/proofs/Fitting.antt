@@ -7,7 +7,7 @@ use Rattle.alg_terms.specs.declared.symbols.Sym.TheVariants as symbol
 use Rattle.alg_certificate.specs.Numbers.{max_number}
 use Rattle.alg_certificate.specs.Words.{sort_bytes, symbol_bytes, ends, is_number, is_sort, is_symbol}
 use Rattle.alg_certificate.specs.Spelling.{SortFits, SymbolFits}
-use Rattle.alg_certificate.specs.NumberLaws.{number_whole}
+use Rattle.alg_certificate.proofs.NumberLaws.{number_whole}
 
 pub number_fits : (n : ℕ) → n ≤ max_number → is_number (decimal n) ≡ true
 number_fits n fits = ap ends (number_whole n fits)

@@ -33,19 +33,8 @@ use Rattle.alg_proof.specs.Valid.{Verdict, Accepted, go_on, verdict_from, IsVali
 use Rattle.alg_certificate.specs.Numbers.{max_number}
 use Rattle.alg_certificate.specs.Spelling.{IsInRange, IsSome, TreeFits, TreesFit, IsComparison, HasOne, HasSpelling, StatementHasSpelling}
 use Rattle.alg_certificate.specs.InRange.{TreeInRange, TreesInRange, StepInRange, StatementInRange}
-use Rattle.alg_certificate_lines.specs.HeadLaws.{Origin, tabled, declared, origin, good_same, same_number, some_place, tabled_tests}
-
--- each declared function has an argument
-abbrev pub HasArgument : Declaration → Type 0
-HasArgument (Carrier n) = ⊤
-HasArgument (Instance k c) = ⊤
-HasArgument (Variable n s) = ⊤
-HasArgument (Function n ss s) = HasOne ss
-HasArgument (Hypothesis n h) = ⊤
-
-abbrev pub HaveArguments : List Declaration → Type 0
-HaveArguments [] = ⊤
-HaveArguments (d ∷ ds) = HasArgument d × HaveArguments ds
+use Rattle.alg_certificate_lines.specs.Arguments.{HasArgument, HaveArguments}
+use Rattle.alg_certificate_lines.proofs.HeadLaws.{Origin, tabled, declared, origin, good_same, same_number, some_place, tabled_tests}
 
 argument_at : (ds : List Declaration) (k : ℕ) (d : Declaration) → HaveArguments ds → slice_get ds k ≡ Some d → HasArgument d
 argument_at [] k d h e = cc

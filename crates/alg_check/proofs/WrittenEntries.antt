@@ -10,8 +10,8 @@ use Rattle.alg_certificate.specs.Numbers.{max_number}
 use Rattle.alg_certificate.specs.Spelling.{HasSpelling, StatementHasSpelling, step_bytes, given_bytes}
 use Rattle.alg_certificate.specs.Reader.{TextLine, goal_line, given_line, proof_line, end_line, coming_of}
 use Rattle.alg_certificate.specs.Grammar.{header}
-use Rattle.alg_certificate.specs.TextLaws.{step_text, given_text}
-use Rattle.alg_certificate.specs.WrittenLines.{IsWritten, Stand, lines_bytes, written_lines}
+use Rattle.alg_certificate.proofs.TextLaws.{step_text, given_text}
+use Rattle.alg_certificate.proofs.WrittenLines.{IsWritten, Stand, lines_bytes, written_lines}
 use Rattle.alg_check.specs.Entries.{Entry, EntryHasSpelling, IsNoEnd, given_lines, proof_lines, lines_of, AreEntriesOf}
 
 -- an entry that the grammar has a text for

@@ -6,9 +6,9 @@ use Rattle.alg_certificate.specs.Cutting.{after}
 use Rattle.alg_certificate.specs.Tokens.{is_some_word}
 use Rattle.alg_certificate.specs.Words.{is_word_of}
 use Rattle.alg_certificate.specs.Patterns.{Pattern, pattern_of, short_pattern, literal_pattern, row_pattern}
-use Rattle.alg_certificate.specs.NumberLaws.{some_is}
-use Rattle.alg_certificate.specs.WordLaws.{word_is}
-use Rattle.alg_certificate.specs.Walkable.{IsClear}
+use Rattle.alg_certificate.proofs.NumberLaws.{some_is}
+use Rattle.alg_certificate.proofs.WordLaws.{word_is}
+use Rattle.alg_certificate.proofs.Walkable.{IsClear}
 
 -- a word that begins a proof line, and its parts
 pub record IsFirst (w : List ℕ) (ps : List Part) : Type 0 where

@@ -18,8 +18,8 @@ use Rattle.alg_certificate.specs.Words.{sort_bytes, symbol_bytes, relation_bytes
 use Rattle.alg_certificate.specs.Spelling.{Item, tree, word, semicolon, trees_before, numbers, numerals, IsInRange, SortFits, SymbolFits, HeadFits, TreeFits, IsComparison}
 use Rattle.alg_certificate.specs.Walks.{word_fits, is_tree_slot, is_semicolon_slot}
 use Rattle.alg_certificate.specs.Items.{FitsSlot, AllFit}
-use Rattle.alg_certificate.specs.NumberLaws.{number_sound}
-use Rattle.alg_certificate.specs.WordLaws.{after_is, nothing_left, word_is, number_is, sort_is, symbol_is, either}
+use Rattle.alg_certificate.proofs.NumberLaws.{number_sound}
+use Rattle.alg_certificate.proofs.WordLaws.{after_is, nothing_left, word_is, number_is, sort_is, symbol_is, either}
 
 -- a value that fits and is spelled so
 abbrev pub Spelled : {A B : Type 0} → (A → Type 0) → (A → B) → B → Type 0

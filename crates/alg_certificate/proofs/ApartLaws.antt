@@ -2,7 +2,7 @@
 use Rattle.std.proofs.Common.{◌≡◌, ℕ, List, [], ◌∷◌, ◌++◌, refl, sym}
 use Rattle.alg_certificate.specs.Tokens.{Tok, Blank, Close, Semi, Open, Lit, Var, Word, token_bytes, Good}
 use Rattle.alg_certificate.specs.Spelling.{bytes}
-use Rattle.alg_certificate.specs.LexingLaws.{Stops, one_token}
+use Rattle.alg_certificate.proofs.LexingLaws.{Stops, one_token}
 
 -- each token is followed by a byte that doesn't go on with it
 abbrev pub Separated : List Tok → Type 0

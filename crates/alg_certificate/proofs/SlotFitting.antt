@@ -13,9 +13,9 @@ use Rattle.alg_certificate.specs.Cutting.{after}
 use Rattle.alg_certificate.specs.Words.{symbol_bytes, relation_bytes, bridge_bytes, head_bytes, numeral_bytes, is_word_of, is_number, ends_above, then_positive, is_numeral, is_comparison, is_relation, is_bridge, is_head}
 use Rattle.alg_certificate.specs.Spelling.{trees_before, numbers, numerals, IsInRange, HeadFits, TreeFits, IsComparison}
 use Rattle.alg_certificate.specs.Items.{AllFit}
-use Rattle.alg_certificate.specs.NumberLaws.{number_whole}
-use Rattle.alg_certificate.specs.Fitting.{number_fits, symbol_fits}
-use Rattle.alg_certificate.specs.SlotLaws.{NumeralFits}
+use Rattle.alg_certificate.proofs.NumberLaws.{number_whole}
+use Rattle.alg_certificate.proofs.Fitting.{number_fits, symbol_fits}
+use Rattle.alg_certificate.proofs.SlotLaws.{NumeralFits}
 
 pub relation_fits : (r : Rel) → is_relation (relation_bytes r) ≡ true
 relation_fits rel.Eq = refl

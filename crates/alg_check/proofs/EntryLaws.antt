@@ -9,20 +9,15 @@ use Rattle.alg_proof.specs.Steps.{Step}
 use Rattle.alg_certificate.specs.declared.reader.State.{State}
 use Rattle.alg_certificate.specs.declared.reader.State.TheVariants.{Outside, Begun, Proving, Broken}
 use Rattle.alg_certificate.specs.Cutting.{after}
-use Rattle.alg_certificate.specs.CuttingLaws.{after_whole}
-use Rattle.alg_certificate.specs.NumberLaws.{some_is}
-use Rattle.alg_certificate.specs.WordLaws.{after_is}
+use Rattle.alg_certificate.proofs.CuttingLaws.{after_whole}
+use Rattle.alg_certificate.proofs.NumberLaws.{some_is}
+use Rattle.alg_certificate.proofs.WordLaws.{after_is}
 use Rattle.alg_certificate.specs.Spelling.{HasSpelling, StatementHasSpelling, step_bytes, given_bytes}
 use Rattle.alg_certificate.specs.Reader.{TextLine, goal_line, given_line, proof_line, end_line, Coming}
 use Rattle.alg_certificate.specs.Items.{IsProofText, IsGivenText}
 use Rattle.alg_certificate.specs.Grammar.{IsTextOf, behind_line, AreLines, header, AreLinesOf}
-use Rattle.alg_certificate.specs.SpelledTexts.{spelled_step, spelled_statement}
-use Rattle.alg_check.specs.Entries.{Entry, EntryHasSpelling, IsNoEnd, given_lines, proof_lines, lines_of, AreEntriesOf}
-
--- entries that lines are, with a last one that doesn't end
-pub record SomeEntries (ls : List TextLine) : Type 0 where
-  pub entries : List Entry
-  pub are : AreEntriesOf ls entries
+use Rattle.alg_certificate.proofs.SpelledTexts.{spelled_step, spelled_statement}
+use Rattle.alg_check.specs.Entries.{Entry, EntryHasSpelling, IsNoEnd, given_lines, proof_lines, lines_of, AreEntriesOf, SomeEntries}
 
 -- the lines go on with a proof up to its end, and then are those of entries
 record EndsProof (ls : List TextLine) : Type 0 where

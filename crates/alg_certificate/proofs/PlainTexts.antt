@@ -8,10 +8,10 @@ use Rattle.alg_certificate.specs.Patterns.{given_pattern}
 use Rattle.alg_certificate.specs.Spelling.{bytes, numbers, spell_items, line_of, goal_bytes}
 use Rattle.alg_certificate.specs.Items.{AreItems, IsProofText, IsGivenText}
 use Rattle.alg_certificate.specs.Grammar.{HasNoFeed}
-use Rattle.alg_certificate.specs.ApartLaws.{Separated}
-use Rattle.alg_certificate.specs.Wordlike.{number_word}
-use Rattle.alg_certificate.specs.Walkable.{items_separated}
-use Rattle.alg_certificate.specs.FirstWords.{is_first}
+use Rattle.alg_certificate.proofs.ApartLaws.{Separated}
+use Rattle.alg_certificate.proofs.Wordlike.{number_word}
+use Rattle.alg_certificate.proofs.Walkable.{items_separated}
+use Rattle.alg_certificate.proofs.FirstWords.{is_first}
 
 plain_append : (xs ys : List ℕ) → HasNoFeed xs → HasNoFeed ys → HasNoFeed (xs ++ ys)
 plain_append [] ys p q = q

@@ -8,7 +8,7 @@ use Rattle.alg_proof.specs.Causes.{Concludes}
 use Rattle.alg_proof.specs.InstanceLaws.{only_good-ok}
 use Rattle.alg_proof.specs.Steps.{Theory, Step, step_mark, conclude_named, conclude}
 use Rattle.alg_proof.specs.Valid.{Verdict, Accepted, go_on, verdict_from, IsValid}
-use Rattle.alg_certificate_lines.specs.ReadBackLaws.{step_back}
+use Rattle.alg_certificate_lines.proofs.ReadBackLaws.{step_back}
 use Rattle.alg_check.specs.Meant.{with_cause, meant}
 use Rattle.alg_check.specs.Certified.{AreMeant}
 
