@@ -2,7 +2,7 @@ use Rattle.std.proofs.Common.{ℤ, subst}
 use Rattle.alg_num.specs.Fraction.{Fraction}
 use Rattle.alg_num.specs.LowestTerms.{Reduces}
 use Rattle.alg_num.proofs.Reductions.{cast_back, crossed, crossed_answer}
-use Rattle.alg_num.proofs.fractions.Frac.times.Goals as goal
+use Rattle.alg_num.proofs.fractions.Frac.crossed_product.Goals as goal
 
 pub returns : goal.returns
 returns c =

@@ -5,11 +5,11 @@ use Rattle.std.specs.Int.{IsGcd}
 use Rattle.std.proofs.lemmas.Int.{ints}
 use Rattle.std.proofs.lemmas.Nat.Gcd.{IsGcd-from_mod, IsGcd-from_zero}
 use Rattle.std.proofs.Math.Nat.{div-mul_cancel}
-use Rattle.alg_num.specs.IntegerLaws.{positive_factor, neg_ℤ-*ℤ}
-use Rattle.alg_num.specs.CoprimeLaws.{gcd_positive, coprime_quotients}
+use Rattle.alg_num.proofs.IntegerLaws.{positive_factor, neg_ℤ-*ℤ}
+use Rattle.alg_num.proofs.CoprimeLaws.{gcd_positive, coprime_quotients}
 use Rattle.alg_num.specs.Fraction.{Fraction, IsSameValue}
 use Rattle.alg_num.specs.LowestTerms.{IsInLowestTerms, Reduces}
-use Rattle.alg_num.specs.LowestTermsLaws.{Reduces-unique, Reduces-same, Reduces-self}
+use Rattle.alg_num.proofs.LowestTermsLaws.{Reduces-unique, Reduces-same, Reduces-self}
 use Rattle.alg_num.specs.Reduced.{divisor_by_steps, greatest_divisor, quotient, reduced}
 
 -- the number of a size, below 0 or not

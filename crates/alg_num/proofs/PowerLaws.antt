@@ -4,7 +4,7 @@ use Rattle.std.specs.Prelude.{unsigned_abs, ◌==◌}
 use Rattle.std.specs.Int.{int_pow}
 use Rattle.std.proofs.Math.Nat.{pow-zero, pow-suc}
 use Rattle.std.proofs.Math.IntN.{neg_ℤ-neg_ℤ, pos-*ℤ-negsuc}
-use Rattle.alg_num.specs.IntegerLaws.{*ℤ_assoc, *ℤ-pos_one, neg_ℤ-*ℤ, positive_product}
+use Rattle.alg_num.proofs.IntegerLaws.{*ℤ_assoc, *ℤ-pos_one, neg_ℤ-*ℤ, positive_product}
 
 unsigned_abs-cond : (t : Bool) (n : ℕ) → unsigned_abs (cond t (pos n) (neg_ℤ (pos n))) ≡ n
 unsigned_abs-cond true n = refl

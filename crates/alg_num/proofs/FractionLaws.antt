@@ -1,9 +1,9 @@
 -- Laws of the sum and the product of fractions. Before they are reduced, both are commutative and associative, and depend on the values alone; the product distributes over the sum up to the value.
 use Rattle.std.proofs.Common.{◌≡◌, ℕ, ◌*◌, ℤ, pos, ◌+ℤ◌, ◌*ℤ◌, arith, ap₂, sym, ◌∙◌}
 use Rattle.std.proofs.Math.IntN.{*ℤ_comm, +ℤ_comm}
-use Rattle.alg_num.specs.IntegerLaws.{as_difference, differences, difference-same, *ℤ_swap_middle, *ℤ_assoc}
+use Rattle.alg_num.proofs.IntegerLaws.{as_difference, differences, difference-same, *ℤ_swap_middle, *ℤ_assoc}
 use Rattle.alg_num.specs.Fraction.{Fraction, IsSameValue}
-use Rattle.alg_num.specs.LowestTermsLaws.{fraction_equal}
+use Rattle.alg_num.proofs.LowestTermsLaws.{fraction_equal}
 use Rattle.alg_num.specs.Sum.{sum_of}
 use Rattle.alg_num.specs.Product.{product_of}
 

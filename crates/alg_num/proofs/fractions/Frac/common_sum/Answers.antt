@@ -1,9 +1,9 @@
 use Rattle.std.proofs.Common.{ℕ, ◌<◌, sym, subst}
-use Rattle.alg_num.specs.CoprimeLaws.{gcd_positive}
+use Rattle.alg_num.proofs.CoprimeLaws.{gcd_positive}
 use Rattle.alg_num.specs.Fraction.{Fraction}
 use Rattle.alg_num.proofs.Reductions.{cast_back}
 use Rattle.alg_num.proofs.LeastSums.{parts_of_least, multiple_positive, least_sum}
-use Rattle.alg_num.proofs.fractions.Frac.plus.Goals as goal
+use Rattle.alg_num.proofs.fractions.Frac.common_sum.Goals as goal
 
 pub nonzero_div-own_part : goal.nonzero_div-own_part
 nonzero_div-own_part c = gcd_positive _ c.other.inside.den _ c.other.invariant.lowest.positive c.gcd-common.ensures

@@ -3,8 +3,8 @@ use Rattle.std.proofs.Common.{◌≡◌, ◌*◌, ◌<◌, ℤ, pos, ◌*ℤ◌,
 use Rattle.std.specs.Prelude.{unsigned_abs}
 use Rattle.std.proofs.lemmas.Int.{unsigned_abs-mul}
 use Rattle.std.proofs.Math.IntN.{*ℤ_comm}
-use Rattle.alg_num.specs.IntegerLaws.{*ℤ_assoc, cancel_ℤ}
-use Rattle.alg_num.specs.CoprimeLaws.{coprime_unique}
+use Rattle.alg_num.proofs.IntegerLaws.{*ℤ_assoc, cancel_ℤ}
+use Rattle.alg_num.proofs.CoprimeLaws.{coprime_unique}
 use Rattle.alg_num.specs.Fraction.{Fraction, IsSameValue}
 use Rattle.alg_num.specs.LowestTerms.{IsInLowestTerms, Reduces}
 

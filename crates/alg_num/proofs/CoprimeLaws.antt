@@ -4,7 +4,7 @@ use Rattle.std.specs.Int.{IsGcd, ◌∣◌}
 use Rattle.std.proofs.lemmas.Nat.{mod-mul-add}
 use Rattle.std.proofs.lemmas.Nat.Gcd.{IsGcd-from_mod, IsGcd-from_zero, same_from_IsGcd, dvd_antisymm, dvd_trans, dvd-zero, dvd_refl}
 use Rattle.std.proofs.Math.Nat.{div-add-mod', dvd-mod_iff, dvd-mul_left, dvd-mul_right, div-mul_cancel, one-dvd, mul-dvd-mul_right, dvd_of_mul-dvd-mul_right, pos_of_dvd_of_pos}
-use Rattle.alg_num.specs.IntegerLaws.{cancel_ℕ, scaled_below}
+use Rattle.alg_num.proofs.IntegerLaws.{cancel_ℕ, scaled_below}
 
 scaled-mod : (a b k : ℕ) → 0 < b → 0 < k → (a * k) % (b * k) ≡ (a % b) * k
 scaled-mod a b k h i =
