@@ -43,7 +43,7 @@ least_for zero b g k d s t = of_zero k _ s
 least_for (suc a) zero g k d s t = of_zero k _ t
 least_for (suc a) (suc b) g k d s t = least_of (suc a) (suc b) g k (omega arith) (omega arith) d s t
 
-IsLcm-least_multiple : (a b : ℕ) → IsLcm a b (least_multiple a b)
+pub IsLcm-least_multiple : (a b : ℕ) → IsLcm a b (least_multiple a b)
 IsLcm-least_multiple a b =
     let g = greatest_divisor a b in
     let d : IsGcd a b g = IsGcd-greatest_divisor a b in

@@ -1,4 +1,4 @@
--- What a look at a declared function tells.
+-- The sorts of a declared function.
 use Rattle.std.specs.Prelude.{◌≡◌, List, Option, Some, None}
 use Rattle.alg_terms.specs.declared.sorts.Sort.{Sort}
 use Rattle.alg_law.specs.declared.base.Signature.{Signature}
