@@ -12,7 +12,6 @@ variable {G : Type*} [Group G] (g : G)
 variable (n k : ℕ) (i : ℤ) (r : ℚ)
 
 -- abs, min and max
-example : abs s + abs o + 0 = 0 := by ring
 example : abs s = s := by ring
 example : abs i = i := by ring
 example : abs r = r := by ring
