@@ -32,7 +32,8 @@ PARTS = (
     (
         "What a file and its report say",
         "What remains of the clauses of `accept`, `run` and `check`: which lists of lines are valid, what the bytes of "
-        "a file tell, the report, certificates, the check, and what a run does to its host.",
+        "a file tell, the report, certificates, the check, and what a run does to its host. The lemmas among them say "
+        "what a line may cite; each is proved to follow from the laws, so none has to be believed.",
         (("accept", ""), ("run", ""), ("check", "")),
     ),
 )
@@ -132,7 +133,8 @@ def declared(text):
 class Sources:
     def __init__(self):
         self.specs = {}
-        self.types = {}
+        # names of proofs/ that a reached definition uses: there should be none
+        self.strays = set()
 
     def spec(self, path):
         """The file of a module path such as Rattle.alg_law.specs.Laws, if there is one in specs/."""
@@ -181,7 +183,6 @@ class Reach:
         self.sources = sources
         self.seen = seen
         self.units = {}
-        self.order = []
         self.types = set()
 
     def from_text(self, text, imports):
@@ -204,6 +205,8 @@ class Reach:
                 continue
             spec = self.sources.spec(path)
             if spec is None:
+                if re.match(r"Rattle\.alg_\w+\.proofs\.", path + "."):
+                    self.sources.strays.add((here or "a clause", path, target[1]))
                 continue
             unit = spec.by_name.get(target[1])
             if unit is None:
@@ -374,7 +377,13 @@ def page():
         "after those that it builds on. `tools/trust.py` makes this page from the sources.",
         "",
         "The number of lines counts the definitions that are reached, without comments, imports and blank lines; a "
-        "file may hold others beside them. Of definitions that stand in one block with a reached one all count.",
+        "file may hold others beside them. Of definitions that stand in one block with a reached one all count. "
+        "Definitions of the kit, such as those of numbers, lists and options, aren't listed.",
+        "",
+        "A clause sees a value of the code as its model, which stands beside its type: a base as its list of "
+        "declarations, an arena as its list of trees, a text as its bytes. `old` and `new` are a value before and "
+        "after the call, `now` one that doesn't change. What the calls of a host do, over which `run` and `check` "
+        "work, is said by the clauses of the trait in [alg_host/src/host.rt](../crates/alg_host/src/host.rt).",
         "",
     ]
     seen, seen_types, tables, total = set(), set(), [], []
@@ -409,6 +418,8 @@ def page():
     out += ["| Part | Files | Lines |", "|---|---|---|"]
     out += [f"| {title} | {files} | {lines} |" for title, files, lines in total]
     out += [f"| all | {len({path for path, _ in seen})} | {sum(lines for _, _, lines in total)} |", ""]
+    for here, path, name in sorted(sources.strays):
+        print(f"trust.py: {here} uses {name} of {path}, which isn't followed", file=sys.stderr)
     out += [
         "Where to begin: read the first part, and of the third what a report says "
         f"([alg_cli/specs/Report.antt](../crates/alg_cli/specs/Report.antt)). The clauses themselves stand in "
