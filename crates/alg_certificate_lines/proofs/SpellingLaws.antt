@@ -17,7 +17,7 @@ use Rattle.alg_law.specs.declared.classes.Class.TheVariants.{Semiring}
 use Rattle.alg_law.specs.Declarations.{Declaration, Carrier, Instance, Variable, Function, Hypothesis, hypotheses}
 use Rattle.alg_law.specs.Having.{has_class}
 use Rattle.alg_law.specs.WellSorted.{sort_mark, sorts_agree, sorts_same, function_in, function_of, of_function, sorts_of, symbol_mark, head_mark, mark_of, marks_of, IsStatement}
-use Rattle.alg_law.specs.WellSortedLaws.{worse-parts}
+use Rattle.alg_law.proofs.WellSortedLaws.{worse-parts}
 use Rattle.alg_law.specs.Rows.{Row}
 use Rattle.alg_law.specs.Laws.{law_table, row_named}
 use Rattle.alg_law.specs.Derivations.{related}

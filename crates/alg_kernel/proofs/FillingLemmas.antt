@@ -14,7 +14,8 @@ use Rattle.alg_expr.specs.declared.ids.ExprId.{ExprId}
 use Rattle.alg_expr.specs.declared.ids.Stmt.{Stmt}
 use Rattle.alg_terms.specs.declared.symbols.Place.{Place}
 use Rattle.alg_expr.specs.Ids.{tree_of, trees_at, IsIn}
-use Rattle.alg_expr.specs.Arena.{Extends, GrowsBy, GrowsBy-Extends, tree_of-extends, IsIn-extends}
+use Rattle.alg_expr.specs.Arena.{Extends, GrowsBy}
+use Rattle.alg_expr.proofs.ArenaLaws.{GrowsBy-Extends, tree_of-extends, IsIn-extends}
 use Rattle.alg_expr.specs.Applying.{arity_fits, sorts_fit, sorts_at}
 use Rattle.alg_law.specs.declared.patterns.Pat.{Pat as Node}
 use Rattle.alg_law.specs.declared.patterns.Pat.TheVariants as node
@@ -22,7 +23,7 @@ use Rattle.alg_law.specs.declared.patterns.PatStmt.{PatStmt}
 use Rattle.alg_law.specs.declared.marks.Mark.TheVariants.{Good}
 use Rattle.alg_law.specs.Declarations.{Declaration}
 use Rattle.alg_law.specs.WellSorted.{head_mark, marks_of, sorts_of, IsWellSorted}
-use Rattle.alg_law.specs.WellSortedLaws.{worse-parts}
+use Rattle.alg_law.proofs.WellSortedLaws.{worse-parts}
 use Rattle.alg_law.specs.Patterns.{Pat, sort_for, fill, fills, fill_statement}
 use Rattle.alg_law.specs.LawRows.{parts, put, patterns, first_of, pattern_of}
 use Rattle.alg_kernel.specs.Filling.{Stands, AllStand, IsEntryIn, IsFilled, put_tree, filled}

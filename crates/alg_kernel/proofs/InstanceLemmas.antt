@@ -5,7 +5,8 @@ use Rattle.alg_terms.specs.Tree.{Tree, Statement}
 use Rattle.alg_expr.specs.declared.ids.ExprId.{ExprId}
 use Rattle.alg_expr.specs.declared.ids.Stmt.{Stmt}
 use Rattle.alg_expr.specs.Ids.{trees_at, IsIn, statement_of, statements_of, IsStatementIn}
-use Rattle.alg_expr.specs.Arena.{Extends, statement_of-extends}
+use Rattle.alg_expr.specs.Arena.{Extends}
+use Rattle.alg_expr.proofs.ArenaLaws.{statement_of-extends}
 use Rattle.alg_law.specs.declared.patterns.PatStmt.{PatStmt}
 use Rattle.alg_law.specs.Declarations.{Declaration}
 use Rattle.alg_law.specs.WellSorted.{IsStatement}

@@ -5,10 +5,11 @@ use Rattle.alg_terms.specs.Tree.{Tree, Statement}
 use Rattle.alg_expr.specs.declared.ids.ExprId.{ExprId}
 use Rattle.alg_expr.specs.declared.ids.Stmt.{Stmt}
 use Rattle.alg_expr.specs.Ids.{tree_of, trees_at, IsIn, statement_of, statements_of}
-use Rattle.alg_expr.specs.Arena.{Extends, IsIn-extends, tree_of-extends, statement_of-extends, statements_of-extends, IsStatementIn-extends}
+use Rattle.alg_expr.specs.Arena.{Extends}
+use Rattle.alg_expr.proofs.ArenaLaws.{IsIn-extends, tree_of-extends, statement_of-extends, statements_of-extends, IsStatementIn-extends}
 use Rattle.std.proofs.lemmas.List.Elements.{All-head, All-tail}
 use Rattle.alg_law.specs.Declarations.{Declaration}
-use Rattle.alg_law.specs.Marks.{HasMarks-extends}
+use Rattle.alg_law.proofs.MarkLemmas.{HasMarks-extends}
 use Rattle.alg_law.specs.WellSorted.{IsStatement}
 use Rattle.alg_proof.specs.declared.lines.Line.{Line}
 use Rattle.alg_proof.specs.declared.lines.Line.TheVariants as line

@@ -24,7 +24,7 @@ use Rattle.alg_law.specs.Patterns.{Pat, PLit, PApp, PNil, PCons, PatStatement, s
 use Rattle.alg_law.specs.LawRows.{parts}
 use Rattle.alg_law.specs.Rows.{Row, letters_of, meets_all, MayFill}
 use Rattle.alg_law.specs.Laws.{law_table, row_named}
-use Rattle.alg_law.specs.RowNames.{row_named-exact}
+use Rattle.alg_law.proofs.RowNameLaws.{row_named-exact}
 use Rattle.alg_law.specs.WellSorted.{sort_mark, IsWellSorted, AreWellSorted}
 use Rattle.alg_law.specs.Derivations.{Derivable, AllDerivable, none, more, reflexive, symmetric, transitive, congruent, substitution, row, literal_law, distinct, smul_literal, zsmul_literal, zpow_literal, equations, count_of}
 use Rattle.alg_proof.specs.declared.lines.BridgeKind.{BridgeKind}

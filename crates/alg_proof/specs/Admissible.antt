@@ -11,7 +11,8 @@ use Rattle.alg_terms.specs.declared.relations.Rel.TheVariants.{Eq, Ne, Lt, Le, D
 use Rattle.alg_terms.specs.declared.causes.BadCause.{BadCause}
 use Rattle.alg_terms.specs.declared.causes.BadCause.TheVariants as cause
 use Rattle.alg_terms.specs.Tree.{Tree, Lit, Var, App, Trees, Nil, Cons, of_list, Statement, sort_of_tree, equal, sum_tree, product_tree}
-use Rattle.alg_terms.specs.Order.{tree_same, tree_same-equal, sort_same, sort_same-equal}
+use Rattle.alg_terms.specs.Order.{tree_same, sort_same}
+use Rattle.alg_terms.proofs.OrderLaws.{tree_same-equal, sort_same-equal}
 use Rattle.alg_law.specs.declared.classes.Class.{Class}
 use Rattle.alg_law.specs.declared.classes.Class.TheVariants.{Semiring, CharZero, AddGroup, Group, Field, IsStrictOrderedRing}
 use Rattle.alg_law.specs.declared.marks.Mark.{Mark}
@@ -21,7 +22,7 @@ use Rattle.alg_law.specs.Following.{IsWellFormed}
 use Rattle.alg_law.specs.Having.{has_class}
 use Rattle.alg_law.specs.Lawful.{IsLawful}
 use Rattle.alg_law.specs.WellSorted.{sort_mark, head_mark, mark_of, marks_of, sorts_of, IsWellSorted, AreWellSorted, IsStatement}
-use Rattle.alg_law.specs.WellSortedLaws.{worse-good, worse-parts}
+use Rattle.alg_law.proofs.WellSortedLaws.{worse-good, worse-parts}
 use Rattle.alg_law.specs.Patterns.{fill_statement}
 use Rattle.alg_law.specs.Rows.{Row, letters_of, MayFill}
 use Rattle.alg_law.specs.Laws.{law_table, row_named}

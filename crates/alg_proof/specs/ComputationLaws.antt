@@ -17,7 +17,7 @@ use Rattle.alg_law.specs.Declarations.{Declaration, Carrier, Instance, Variable,
 use Rattle.alg_law.specs.Having.{has_class, instances_give}
 use Rattle.alg_law.specs.WellSorted.{head_mark}
 use Rattle.alg_law.specs.Computing.{natural_value, integer_value, divides, literal_value}
-use Rattle.alg_law.specs.ComputingLaws.{natural_value-is, integer_value-is, divides-is}
+use Rattle.alg_law.proofs.ComputingLaws.{natural_value-is, integer_value-is, divides-is}
 use Rattle.alg_law.specs.Derivations.{numeral, related, LiteralLaw, natural_value as natural_law, integer_value as integer_law, natural_divides, integer_divides}
 use Rattle.alg_proof.specs.Causes.{or_cause, only_if, only_good}
 use Rattle.alg_proof.specs.InstanceLaws.{only_if-ok, only_good-ok, or_cause-ok}

@@ -9,7 +9,8 @@ use Rattle.alg_terms.specs.declared.sorts.Sort.TheVariants.{Nat}
 use Rattle.alg_terms.specs.declared.causes.BadCause.{BadCause}
 use Rattle.alg_terms.specs.declared.causes.BadCause.TheVariants as cause
 use Rattle.alg_terms.specs.Tree.{Tree, Statement, of_list, sort_of_tree}
-use Rattle.alg_terms.specs.Order.{tree_same, tree_same-equal, sort_same, sort_same-equal, rel_same, rel_same-equal}
+use Rattle.alg_terms.specs.Order.{tree_same, sort_same, rel_same}
+use Rattle.alg_terms.proofs.OrderLaws.{tree_same-equal, sort_same-equal, rel_same-equal}
 use Rattle.alg_law.specs.declared.rows.Need.{Need}
 use Rattle.alg_law.specs.declared.rows.Need.TheVariants as need
 use Rattle.alg_law.specs.declared.marks.Mark.{Mark}

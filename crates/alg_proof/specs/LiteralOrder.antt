@@ -10,11 +10,11 @@ use Rattle.alg_law.specs.Declarations.{Declaration}
 use Rattle.alg_law.specs.Having.{has_class}
 use Rattle.alg_law.specs.Lawful.{IsLawful}
 use Rattle.alg_law.specs.WellSorted.{sort_mark, mark_of, IsWellSorted, AreWellSorted}
-use Rattle.alg_law.specs.WellSortedLaws.{worse-good, literal-good}
+use Rattle.alg_law.proofs.WellSortedLaws.{worse-good, literal-good}
 use Rattle.alg_law.specs.Laws.{law_table}
 use Rattle.alg_law.specs.OrderLaws.{order_laws, le_refl, le_of_lt, lt_trans}
 use Rattle.alg_law.specs.OrderedRingLaws.{ordered_semiring_laws, zero_lt_one, add_lt_add_le}
-use Rattle.alg_law.specs.LawTableLaws.{has-order_law, has-ordered_semiring_law}
+use Rattle.alg_law.proofs.LawTableLaws.{has-order_law, has-ordered_semiring_law}
 use Rattle.alg_law.specs.Derivations.{related, Derivable, substitution, row, AllDerivable, none, more}
 use Rattle.alg_proof.specs.PatternLaws.{ordered-parts}
 use Rattle.alg_proof.specs.LiteralSums.{literal_sum}

@@ -13,7 +13,8 @@ use Rattle.alg_terms.specs.declared.relations.Rel.{Rel}
 use Rattle.alg_terms.specs.declared.relations.Rel.TheVariants.{Eq, Ne, Lt, Le, Dvd}
 use Rattle.alg_terms.specs.Symbols.{places, places_fit, place_fits, serves, arguments_fit, is_integral}
 use Rattle.alg_terms.specs.Tree.{Tree, Lit, App, Trees, Nil, Cons, of_list, sort_of_tree}
-use Rattle.alg_terms.specs.Order.{sort_same, sort_same-equal, sort_same-self}
+use Rattle.alg_terms.specs.Order.{sort_same}
+use Rattle.alg_terms.proofs.OrderLaws.{sort_same-equal, sort_same-self}
 use Rattle.alg_law.specs.declared.classes.Class.{Class}
 use Rattle.alg_law.specs.declared.classes.Class.TheVariants as class
 use Rattle.alg_law.specs.declared.rows.Need.{Need}
@@ -24,10 +25,10 @@ use Rattle.alg_law.specs.declared.marks.Mark.TheVariants.{Good}
 use Rattle.alg_law.specs.Classes.{all_of, is_among, gives, own_classes}
 use Rattle.alg_law.specs.Declarations.{Declaration}
 use Rattle.alg_law.specs.Having.{has_class, instances_give}
-use Rattle.alg_law.specs.HavingLaws.{has_class-all}
+use Rattle.alg_law.proofs.HavingLaws.{has_class-all}
 use Rattle.alg_law.specs.Lawful.{IsLawful, lawful_at}
 use Rattle.alg_law.specs.WellSorted.{literal_class, class_mark, sort_mark, has_classes, built_in_mark, symbol_mark, head_mark, mark_of, marks_of, sorts_of, has_relation, IsWellSorted, AreWellSorted, IsStatement}
-use Rattle.alg_law.specs.WellSortedLaws.{worse-good, worse-parts}
+use Rattle.alg_law.proofs.WellSortedLaws.{worse-good, worse-parts}
 use Rattle.alg_law.specs.Patterns.{Pat, Letter, PLit, PApp, Pats, PNil, PCons, PatStatement, sort_for, letter_sort, index_in, fill, fills, fill_statement}
 use Rattle.alg_law.specs.Rows.{Row, letters_of, MayFill, meets, meets_all}
 use Rattle.alg_proof.specs.PatternSorts.{pat_sort_same, letter_pat_sort, pat_sort, comes_with, needs_give, class_ok, needs_nat, is_nat, is_whole, serves_ok, classes_ok, place_ok, places_ok, is_letter, pat_ok, pats_ok, relation_ok, pat_statement_ok, row_ok}

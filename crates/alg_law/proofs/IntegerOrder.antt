@@ -3,8 +3,8 @@ use Rattle.std.proofs.Common.{◌≡◌, ◌≢◌, ℕ, zero, suc, ◌+◌, ◌
 use Rattle.std.specs.Prelude.{◌<ℤ◌, ◌≤ℤ◌, unsigned_abs}
 use Rattle.std.specs.Int.{int_pow}
 use Rattle.std.proofs.lemmas.Int.{ints, by_lt_z}
-use Rattle.alg_law.specs.IntegerLaws.{difference_times}
-use Rattle.alg_law.specs.IntegerPowers.{int_pow-zero, int_pow-suc}
+use Rattle.alg_law.proofs.IntegerLaws.{difference_times}
+use Rattle.alg_law.proofs.IntegerPowers.{int_pow-zero, int_pow-suc}
 use Rattle.alg_law.specs.IntegerValues.{natural}
 
 pub product_above : (a b : ℤ) → pos 0 <ℤ a → pos 0 <ℤ b → pos 0 <ℤ (a *ℤ b)

@@ -2,10 +2,11 @@
 use Rattle.std.specs.Prelude.{All, refl, ◌≡◌, ℤ, pos, ◌+ℤ◌, ◌*ℤ◌}
 use Rattle.std.proofs.Common.{ap, ◌∙◌}
 use Rattle.std.proofs.Math.IntN.{+ℤ_assoc, +ℤ_idl, +ℤ_idr, +ℤ_comm, +ℤ_invl, zero-*ℤ}
-use Rattle.alg_law.specs.IntegerLaws.{*ℤ_assoc, *ℤ-+ℤ, +ℤ-*ℤ, neg_ℤ-*ℤ, pos_one-*ℤ}
+use Rattle.alg_law.proofs.IntegerLaws.{*ℤ_assoc, *ℤ-+ℤ, +ℤ-*ℤ, neg_ℤ-*ℤ, pos_one-*ℤ}
 use Rattle.std.proofs.lemmas.List.Elements.{All-from_recursion}
 use Rattle.alg_law.specs.AdditiveLaws.{sum_laws, multiple_laws, add_assoc, zero_add, add_zero, add_comm, neg_add_cancel, sub_eq_add_neg, zero_nsmul, succ_nsmul, add_nsmul, mul_nsmul, nsmul_add, neg_zsmul, add_zsmul, mul_zsmul, zsmul_add}
-use Rattle.alg_law.specs.TrueRows.{IsTrueRow, letter}
+use Rattle.alg_law.specs.TrueRows.{IsTrueRow}
+use Rattle.alg_law.proofs.TrueRowLaws.{letter}
 
 one_more : (n a : ℤ) → (n +ℤ pos 1) *ℤ a ≡ n *ℤ a +ℤ a
 one_more n a = +ℤ-*ℤ n (pos 1) a ∙ ap (λ z. n *ℤ a +ℤ z) (pos_one-*ℤ a)

@@ -4,13 +4,14 @@ use Rattle.std.specs.Int.{int_pow}
 use Rattle.std.proofs.Common.{ap, ◌∙◌, arith}
 use Rattle.std.proofs.Math.IntN.{*ℤ_comm}
 use Rattle.std.proofs.lemmas.Int.{ints}
-use Rattle.alg_law.specs.IntegerLaws.{*ℤ_assoc, *ℤ-pos_one, pos_one-*ℤ}
-use Rattle.alg_law.specs.IntegerPowers.{int_pow-zero, int_pow-suc, int_pow-add, int_pow-mul, int_pow-one, int_pow-*ℤ}
-use Rattle.alg_law.specs.IntegerOrder.{natural-+ℤ, natural-*ℤ}
+use Rattle.alg_law.proofs.IntegerLaws.{*ℤ_assoc, *ℤ-pos_one, pos_one-*ℤ}
+use Rattle.alg_law.proofs.IntegerPowers.{int_pow-zero, int_pow-suc, int_pow-add, int_pow-mul, int_pow-one, int_pow-*ℤ}
+use Rattle.alg_law.proofs.IntegerOrder.{natural-+ℤ, natural-*ℤ}
 use Rattle.alg_law.specs.IntegerValues.{natural}
 use Rattle.std.proofs.lemmas.List.Elements.{All-from_recursion}
 use Rattle.alg_law.specs.MultiplicativeLaws.{product_laws, power_laws, mul_assoc, mul_comm, one_mul, mul_one, inv_mul_cancel, div_eq_mul_inv, div_eq_mul_inv0, pow_zero, pow_succ, pow_add, pow_mul, one_pow, mul_pow, zpow_neg, zpow_neg0, zpow_add, zpow_mul}
-use Rattle.alg_law.specs.TrueRows.{IsTrueRow, letter, natural_at, not_of_group, not_of_field}
+use Rattle.alg_law.specs.TrueRows.{IsTrueRow}
+use Rattle.alg_law.proofs.TrueRowLaws.{letter, natural_at, not_of_group, not_of_field}
 
 one_more : (a n : ℤ) → pos 0 ≤ℤ n → int_pow a (natural (n +ℤ pos 1)) ≡ int_pow a (natural n) *ℤ a
 one_more a (pos n) h = let e : n + 1 ≡ suc n = omega arith in ap (int_pow a) e ∙ int_pow-suc a n

@@ -3,10 +3,11 @@ use Rattle.std.specs.Prelude.{All, ◌≡◌, ◌≢◌, ℤ, ◌<ℤ◌, ◌≤
 use Rattle.std.specs.Int.{int_min, int_max}
 use Rattle.std.proofs.Common.{arith}
 use Rattle.std.proofs.lemmas.Int.{ints, clamps}
-use Rattle.alg_law.specs.IntegerOrder.{less_unless_equal, not_either}
+use Rattle.alg_law.proofs.IntegerOrder.{less_unless_equal, not_either}
 use Rattle.std.proofs.lemmas.List.Elements.{All-from_recursion}
 use Rattle.alg_law.specs.OrderLaws.{order_laws, min_max_laws, le_refl, le_of_lt, ne_of_lt, lt_of_le_of_ne, le_trans, lt_trans, lt_of_lt_of_le, lt_of_le_of_lt, min_eq_left, min_eq_right, max_eq_left, max_eq_right, lt_min, le_min, min_ne, lt_max_left, lt_max_right, le_max_left, le_max_right, max_ne}
-use Rattle.alg_law.specs.TrueRows.{IsTrueRow, letter}
+use Rattle.alg_law.specs.TrueRows.{IsTrueRow}
+use Rattle.alg_law.proofs.TrueRowLaws.{letter}
 
 at_most_self : (a : ℤ) → a ≤ℤ a
 at_most_self a = omega (arith, ints)

@@ -12,7 +12,8 @@ use Rattle.alg_terms.specs.declared.symbols.Sym.{Sym}
 use Rattle.alg_terms.specs.declared.symbols.Sym.TheVariants.{Add, Mul, Neg, Sub, Inv, Div, Npow, Zpow, Nsmul, Zsmul, Abs, Min, Max, NatSub, IDiv, Mod, Gcd, Lcm, Fact, Choose, Fib, Apply}
 use Rattle.alg_terms.specs.declared.symbols.Place.{Place}
 use Rattle.alg_terms.specs.declared.symbols.Place.TheVariants.{Same, OfNat, OfInt}
-use Rattle.alg_terms.specs.Order.{sort_same, sort_same-equal}
+use Rattle.alg_terms.specs.Order.{sort_same}
+use Rattle.alg_terms.proofs.OrderLaws.{sort_same-equal}
 use Rattle.alg_terms.specs.Symbols.{places, place_fits, places_fit, arguments_fit, serves}
 use Rattle.alg_terms.specs.Tree.{Tree, Lit, Var, App, Trees, Nil, Cons, of_list, sort_of_tree}
 use Rattle.alg_law.specs.declared.classes.Class.{Class}
@@ -21,12 +22,12 @@ use Rattle.alg_law.specs.declared.marks.Mark.TheVariants.{Good, BadSort}
 use Rattle.alg_law.specs.Declarations.{Declaration, Carrier, Instance, Variable, Function, Hypothesis}
 use Rattle.alg_law.specs.Having.{has_class, instances_give}
 use Rattle.alg_law.specs.IntegerBases.{IsIntegerBase}
-use Rattle.alg_law.specs.IntegerOrder.{product_not_below, power_not_below, natural_not_below}
+use Rattle.alg_law.proofs.IntegerOrder.{product_not_below, power_not_below, natural_not_below}
 use Rattle.alg_law.specs.Computing.{integer_quotient, integer_remainder}
 use Rattle.alg_law.specs.IntegerValues.{natural, at_one, at_two, applied, value_of, values_of}
 use Rattle.alg_law.specs.Valuations.{Valuation, Listed, is_listed_at, same_integers, result_at, IsResult, IsValuation}
 use Rattle.alg_law.specs.WellSorted.{variable_of, function_of, sort_mark, of_sort, same_mark, class_mark, sorts_agree, sorts_same, of_function, has_classes, built_in_mark, symbol_mark, head_mark, sorts_of, mark_of, marks_of, IsWellSorted, AreWellSorted}
-use Rattle.alg_law.specs.WellSortedLaws.{worse-parts}
+use Rattle.alg_law.proofs.WellSortedLaws.{worse-parts}
 
 -- the declarations give no class to a built-in sort
 nothing_for_naturals : (ds : List Declaration) (c : Class) → instances_give ds Nat c ≡ false

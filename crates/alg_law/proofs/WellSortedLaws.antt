@@ -4,13 +4,13 @@ use Rattle.std.proofs.Common.{ap}
 use Rattle.alg_terms.specs.declared.sorts.Sort.{Sort}
 use Rattle.alg_terms.specs.declared.symbols.Sym.TheVariants.{Add, Mul}
 use Rattle.alg_terms.specs.Tree.{Tree, Lit, Var, App, sort_of_tree, sum_tree, product_tree}
-use Rattle.alg_terms.specs.Order.{sort_same-self}
+use Rattle.alg_terms.proofs.OrderLaws.{sort_same-self}
 use Rattle.alg_law.specs.declared.classes.Class.TheVariants.{Semigroup, Monoid, AddMonoid, AddCommMonoid, Semiring}
 use Rattle.alg_law.specs.declared.marks.Mark.{Mark}
 use Rattle.alg_law.specs.declared.marks.Mark.TheVariants.{Good, NoInstance, BadSort, BadName}
 use Rattle.alg_law.specs.Declarations.{Declaration}
 use Rattle.alg_law.specs.Having.{has_class}
-use Rattle.alg_law.specs.HavingLaws.{has_class-implied}
+use Rattle.alg_law.proofs.HavingLaws.{has_class-implied}
 use Rattle.alg_law.specs.WellSorted.{worse, sort_mark, literal_class, class_mark, head_mark, symbol_mark, of_sort, variable_of, mark_of, marks_of, sorts_of, IsWellSorted}
 
 pub worse-good : (a b : Mark) → a ≡ Good → b ≡ Good → worse a b ≡ Good

@@ -2,7 +2,7 @@
 use Rattle.std.proofs.Common.{◌≡◌, ℕ, zero, suc, ◌+◌, ◌*◌, ℤ, pos, ◌*ℤ◌, arith, ap, ap₂, sym, ◌∙◌, mul-zero}
 use Rattle.std.specs.Int.{int_pow}
 pub use Rattle.alg_num.proofs.PowerLaws.{int_pow-zero, int_pow-suc, int_pow-add}
-use Rattle.alg_law.specs.IntegerLaws.{*ℤ-pos_one, *ℤ_swap_middle}
+use Rattle.alg_law.proofs.IntegerLaws.{*ℤ-pos_one, *ℤ_swap_middle}
 
 pub int_pow-mul : (a : ℤ) (m n : ℕ) → int_pow a (m * n) ≡ int_pow (int_pow a m) n
 int_pow-mul a m zero = ap (int_pow a) (mul-zero m) ∙ int_pow-zero a ∙ sym (int_pow-zero (int_pow a m))

@@ -3,12 +3,13 @@ use Rattle.std.specs.Prelude.{All, true, ◌≢◌, ℤ, pos, ◌+ℤ◌, neg_�
 use Rattle.std.proofs.Common.{sym, arith}
 use Rattle.std.proofs.Math.IntN.{zero-*ℤ, *ℤ-zero}
 use Rattle.std.proofs.lemmas.Int.{ints}
-use Rattle.alg_law.specs.IntegerLaws.{*ℤ-+ℤ, +ℤ-*ℤ}
-use Rattle.alg_law.specs.IntegerOrder.{product_nonzero, power_nonzero}
+use Rattle.alg_law.proofs.IntegerLaws.{*ℤ-+ℤ, +ℤ-*ℤ}
+use Rattle.alg_law.proofs.IntegerOrder.{product_nonzero, power_nonzero}
 use Rattle.alg_law.specs.IntegerValues.{natural}
 use Rattle.std.proofs.lemmas.List.Elements.{All-from_recursion}
 use Rattle.alg_law.specs.RingLaws.{semiring_laws, field_laws, unequal_laws, left_distrib, right_distrib, zero_mul, mul_zero, mul_inv_cancel0, inv_zero, one_ne_zero, inv_ne_zero, mul_ne_zero, pow_ne_zero, mul_right_ne, mul_ne_zero_ord, pow_ne_zero_ord, ne_symm, neg_ne_zero, add_right_ne}
-use Rattle.alg_law.specs.TrueRows.{IsTrueRow, letter, not_of_field}
+use Rattle.alg_law.specs.TrueRows.{IsTrueRow}
+use Rattle.alg_law.proofs.TrueRowLaws.{letter, not_of_field}
 
 negation_nonzero : (a : ℤ) → a ≢ pos 0 → neg_ℤ a ≢ pos 0
 negation_nonzero a h e = h (omega (arith, ints, e))

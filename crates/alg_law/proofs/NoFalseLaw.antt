@@ -14,10 +14,10 @@ use Rattle.alg_law.specs.Declarations.{Declaration, Carrier, Instance, Variable,
 use Rattle.alg_law.specs.Derivations.{Derivable, reflexive, symmetric, transitive, congruent, substitution, row, literal_law, hypothesis, rest, AllDerivable, none, more, LiteralLaw, next_literal, distinct, smul_literal, zsmul_literal, zpow_literal, natural_value, integer_value, natural_divides, integer_divides, equations, count_of, numeral}
 use Rattle.alg_law.specs.Following.{AllMayFollow, IsWellFormed}
 use Rattle.alg_law.specs.IntegerBases.{IsIntegerBase}
-use Rattle.alg_law.specs.IntegerTrees.{AllBesideRationals, arguments-beside, no_group_or_field}
+use Rattle.alg_law.proofs.IntegerTrees.{AllBesideRationals, arguments-beside, no_group_or_field}
 use Rattle.alg_law.specs.IntegerValues.{applied, value_of, values_of}
 use Rattle.alg_law.specs.Laws.{law_groups, rows_in, law_table}
-use Rattle.alg_law.specs.LeanValues.{natural_value-holds, integer_value-holds, integer_divides-holds}
+use Rattle.alg_law.proofs.LeanValues.{natural_value-holds, integer_value-holds, integer_divides-holds}
 use Rattle.alg_law.specs.Patterns.{Pat, Letter, PLit, PApp, PatStatement, sort_for, letter_sort, index_in, fill, fill_statement}
 use Rattle.alg_law.specs.Rows.{Row, letters_of, MayFill}
 use Rattle.alg_law.specs.AdditiveLaws.{sum_laws, multiple_laws}
@@ -25,11 +25,11 @@ use Rattle.alg_law.specs.MultiplicativeLaws.{product_laws, power_laws}
 use Rattle.alg_law.specs.RingLaws.{semiring_laws, field_laws, unequal_laws}
 use Rattle.alg_law.specs.OrderLaws.{order_laws, min_max_laws}
 use Rattle.alg_law.specs.OrderedRingLaws.{ordered_semiring_laws, ordered_ring_laws}
-use Rattle.alg_law.specs.TrueAdditiveLaws.{sum_laws-true, multiple_laws-true}
-use Rattle.alg_law.specs.TrueMultiplicativeLaws.{product_laws-true, power_laws-true}
-use Rattle.alg_law.specs.TrueRingLaws.{semiring_laws-true, field_laws-true, unequal_laws-true}
-use Rattle.alg_law.specs.TrueOrderLaws.{order_laws-true, min_max_laws-true}
-use Rattle.alg_law.specs.TrueOrderedRingLaws.{ordered_semiring_laws-true, ordered_ring_laws-true}
+use Rattle.alg_law.proofs.TrueAdditiveLaws.{sum_laws-true, multiple_laws-true}
+use Rattle.alg_law.proofs.TrueMultiplicativeLaws.{product_laws-true, power_laws-true}
+use Rattle.alg_law.proofs.TrueRingLaws.{semiring_laws-true, field_laws-true, unequal_laws-true}
+use Rattle.alg_law.proofs.TrueOrderLaws.{order_laws-true, min_max_laws-true}
+use Rattle.alg_law.proofs.TrueOrderedRingLaws.{ordered_semiring_laws-true, ordered_ring_laws-true}
 use Rattle.alg_law.specs.TrueRows.{IsTrueRow}
 use Rattle.alg_law.specs.Truth.{RelHolds, Holds, AllHold, HoldsAtIntegers}
 use Rattle.alg_law.specs.Valuations.{Valuation, IsValuation}

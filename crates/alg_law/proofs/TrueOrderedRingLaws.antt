@@ -4,15 +4,17 @@ use Rattle.std.proofs.Common.{arith, mul-pos}
 use Rattle.std.proofs.lemmas.Bool.{and_parts}
 use Rattle.std.proofs.lemmas.Int.{ints}
 use Rattle.alg_terms.specs.declared.sorts.Sort.TheVariants.{Nat}
-use Rattle.alg_terms.specs.Order.{sort_same, sort_same-equal}
+use Rattle.alg_terms.specs.Order.{sort_same}
+use Rattle.alg_terms.proofs.OrderLaws.{sort_same-equal}
 use Rattle.alg_law.specs.declared.classes.Class.TheVariants.{IsStrictOrderedRing}
 use Rattle.alg_law.specs.Having.{has_class}
 use Rattle.alg_law.specs.LeanFunctions.{factorial}
-use Rattle.alg_law.specs.IntegerOrder.{product_above, product_not_below, square_not_below, power_above, power_not_below, less_times, at_most_times, abs-same, abs-opposite, abs_above, natural_not_below, one_above}
+use Rattle.alg_law.proofs.IntegerOrder.{product_above, product_not_below, square_not_below, power_above, power_not_below, less_times, at_most_times, abs-same, abs-opposite, abs_above, natural_not_below, one_above}
 use Rattle.alg_law.specs.IntegerValues.{natural}
 use Rattle.std.proofs.lemmas.List.Elements.{All-from_recursion}
 use Rattle.alg_law.specs.OrderedRingLaws.{ordered_semiring_laws, ordered_ring_laws, zero_lt_one, add_le_add, add_lt_add, add_lt_add_le, mul_pos, mul_nonneg, pow_pos, pow_nonneg, mul_lt_mul_right, mul_le_mul_right, mul_self_nonneg, abs_of_nonneg, abs_of_nonpos, abs_nonneg, abs_pos, inv_pos, inv_nonneg, nat_nonneg, fact_pos}
-use Rattle.alg_law.specs.TrueRows.{IsTrueRow, letter, natural_at, not_of_field}
+use Rattle.alg_law.specs.TrueRows.{IsTrueRow}
+use Rattle.alg_law.proofs.TrueRowLaws.{letter, natural_at, not_of_field}
 
 at_most_sums : (a b c d : ℤ) → a ≤ℤ b → c ≤ℤ d → (a +ℤ c) ≤ℤ (b +ℤ d)
 at_most_sums a b c d h k = omega (arith, ints)
