@@ -14,6 +14,3 @@ pub use class_names::class_named;
 pub use domains::{Said, elaborate_domain};
 pub use goals::{Stated, elaborate_goal};
 pub use taken::taken_fault;
-
-#[cfg(test)]
-mod tests;

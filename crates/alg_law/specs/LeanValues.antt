@@ -13,7 +13,7 @@ use Rattle.alg_terms.specs.Tree.{Lit, of_list}
 use Rattle.alg_law.specs.Derivations.{numeral}
 use Rattle.alg_law.specs.IntegerLaws.{neg_ℤ-*ℤ-neg_ℤ}
 use Rattle.alg_num.specs.Reduced.{greatest_divisor}
-use Rattle.alg_num.specs.ReducedLaws.{IsGcd-greatest_divisor}
+use Rattle.alg_num.proofs.ReducedLaws.{IsGcd-greatest_divisor}
 use Rattle.alg_law.specs.Computing.{least_multiple, integer_quotient, integer_remainder}
 use Rattle.alg_law.specs.ComputingLaws.{IsLcm-least_multiple}
 use Rattle.alg_law.specs.IntegerValues.{applied, value_of, values_of}
