@@ -18,7 +18,8 @@ use Rattle.alg_proof.specs.Lines.{step_of, steps_of, IsLineIn}
 use Rattle.alg_proof.specs.declared.lemma_rows.LemmaRow.{LemmaRow}
 use Rattle.alg_proof.specs.LemmaRows.{rows_of}
 use Rattle.alg_proof.specs.Following.{IsAdmissible}
-use Rattle.alg_proof.specs.Admissible.{IsTheory, IsFine, AllFine, fine_lines}
+use Rattle.alg_proof.specs.Admissible.{IsTheory, IsFine, AllFine}
+use Rattle.alg_proof.proofs.Admissible.{fine_lines}
 use Rattle.alg_law.specs.Following.{IsWellFormed}
 use Rattle.alg_law.specs.Lawful.{IsLawful}
 use Rattle.alg_law.specs.WellSorted.{IsStatement}

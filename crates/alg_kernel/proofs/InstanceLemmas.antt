@@ -15,7 +15,7 @@ use Rattle.alg_law.specs.Patterns.{fill_statement}
 use Rattle.alg_law.specs.Rows.{Row, letters_of}
 use Rattle.alg_proof.specs.Causes.{statement_same}
 use Rattle.alg_proof.specs.Instances.{letters_fit, premises_fit, sort_meets_all, class_meets_all, premises_alike, instance_of}
-use Rattle.alg_proof.specs.InstanceLaws.{same-equal}
+use Rattle.alg_proof.proofs.InstanceLaws.{same-equal}
 use Rattle.alg_proof.specs.Admissible.{AllFine}
 use Rattle.alg_kernel.proofs.TreeLemmas.{trees_at-extends}
 

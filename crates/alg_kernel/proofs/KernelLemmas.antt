@@ -17,7 +17,8 @@ use Rattle.alg_proof.specs.declared.lines.Line.{Line}
 use Rattle.alg_proof.specs.Lines.{step_of, steps_of, IsLineIn}
 use Rattle.alg_proof.specs.Steps.{Theory, Step, step_mark, conclude, conclude_named}
 use Rattle.alg_proof.specs.Valid.{Accepted, verdict}
-use Rattle.alg_proof.specs.Admissible.{AllFine, AllFine-push, IsFine, IsTheory, Follows, conclude-fine, verdict_from-fine, valid-derivable}
+use Rattle.alg_proof.specs.Admissible.{AllFine, IsFine, IsTheory, Follows}
+use Rattle.alg_proof.proofs.Admissible.{AllFine-push, conclude-fine, verdict_from-fine, valid-derivable}
 use Rattle.alg_kernel.specs.declared.answers.Fault.{Fault}
 use Rattle.alg_kernel.specs.declared.answers.Fault.TheVariants as fault
 use Rattle.alg_kernel.specs.declared.answers.Checked.{Checked}

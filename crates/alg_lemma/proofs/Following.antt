@@ -33,7 +33,7 @@ use Rattle.alg_proof.specs.Causes.{line_at, is_small, is_eq_rel}
 use Rattle.alg_proof.specs.Following.{IsAdmissible}
 use Rattle.alg_proof.specs.LemmaRows.{PatStep, Refl, Symm, Trans, Cong, Subst, Law, Lemma, LitAdd, LitMul, LitRel, Bridge, Compute, lemma_row_of, proof_of}
 use Rattle.alg_proof.specs.declared.lemma_rows.LemmaRow.{LemmaRow}
-use Rattle.alg_proof.specs.LiteralSums.{literal_sum, literal_product}
+use Rattle.alg_proof.proofs.LiteralSums.{literal_sum, literal_product}
 use Rattle.alg_lemma.specs.Kinds.{kind_same, kind_has, needs_met}
 use Rattle.alg_lemma.specs.Fitting.{kind_of, kinds_of, fits, all_fit, statement_fits, statements_fit}
 use Rattle.alg_lemma.specs.Same.{pattern_same, pattern_statements_same}

@@ -20,7 +20,7 @@ use Rattle.alg_law.specs.Computing.{natural_value, integer_value, divides, liter
 use Rattle.alg_law.proofs.ComputingLaws.{natural_value-is, integer_value-is, divides-is}
 use Rattle.alg_law.specs.Derivations.{numeral, related, LiteralLaw, natural_value as natural_law, integer_value as integer_law, natural_divides, integer_divides}
 use Rattle.alg_proof.specs.Causes.{or_cause, only_if, only_good}
-use Rattle.alg_proof.specs.InstanceLaws.{only_if-ok, only_good-ok, or_cause-ok}
+use Rattle.alg_proof.proofs.InstanceLaws.{only_if-ok, only_good-ok, or_cause-ok}
 use Rattle.alg_proof.specs.LiteralLines.{has_literal}
 use Rattle.alg_proof.specs.Computations.{numeral_at, numerals_at, has_numeral, has_numerals, is_small_integer, are_small, value_at, sorts_like, value_line, divides_next, first_number, second_number, divides_line}
 

@@ -20,7 +20,7 @@ use Rattle.alg_law.specs.Having.{has_class, instance_gives, instances_give}
 use Rattle.alg_law.specs.Following.{MayFollow, AllMayFollow, IsWellFormed}
 use Rattle.alg_law.specs.WellSorted.{is_type, variable_of, function_of, sort_mark, literal_class, class_mark, of_sort, of_function, has_classes, built_in_mark, symbol_mark, head_mark, mark_of, marks_of, sorts_of, has_relation, IsWellSorted, AreWellSorted, IsStatement}
 use Rattle.alg_law.proofs.WellSortedLaws.{worse-good, worse-parts}
-use Rattle.alg_proof.specs.PatternLaws.{or_else}
+use Rattle.alg_proof.proofs.PatternLaws.{or_else}
 
 slice_get-more : (ds more : List Declaration) (k : ℕ) (d : Declaration) → slice_get ds k ≡ Some d → slice_get (ds ++ more) k ≡ Some d
 slice_get-more [] more k d e = cc

@@ -31,7 +31,7 @@ use Rattle.alg_law.specs.WellSorted.{literal_class, class_mark, sort_mark, has_c
 use Rattle.alg_law.proofs.WellSortedLaws.{worse-good, worse-parts}
 use Rattle.alg_law.specs.Patterns.{Pat, Letter, PLit, PApp, Pats, PNil, PCons, PatStatement, sort_for, letter_sort, index_in, fill, fills, fill_statement}
 use Rattle.alg_law.specs.Rows.{Row, letters_of, MayFill, meets, meets_all}
-use Rattle.alg_proof.specs.PatternSorts.{pat_sort_same, letter_pat_sort, pat_sort, comes_with, needs_give, class_ok, needs_nat, is_nat, is_whole, serves_ok, classes_ok, place_ok, places_ok, is_letter, pat_ok, pats_ok, relation_ok, pat_statement_ok, row_ok}
+use Rattle.alg_proof.proofs.PatternSorts.{pat_sort_same, letter_pat_sort, pat_sort, comes_with, needs_give, class_ok, needs_nat, is_nat, is_whole, serves_ok, classes_ok, place_ok, places_ok, is_letter, pat_ok, pats_ok, relation_ok, pat_statement_ok, row_ok}
 
 abbrev pub or_else : (x y : Bool) → (x || y) ≡ true → (x ≡ true) ⊎ (y ≡ true)
 or_else true y e = inl refl

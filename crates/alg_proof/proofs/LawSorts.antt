@@ -15,8 +15,8 @@ use Rattle.alg_law.specs.RingLaws.{semiring_laws, field_laws, unequal_laws}
 use Rattle.alg_law.specs.OrderLaws.{order_laws, min_max_laws}
 use Rattle.alg_law.specs.OrderedRingLaws.{ordered_semiring_laws, ordered_ring_laws}
 use Rattle.alg_law.specs.Laws.{law_groups, law_table}
-use Rattle.alg_proof.specs.PatternSorts.{row_ok, rows_ok}
-use Rattle.alg_proof.specs.PatternLaws.{row_ok-statement}
+use Rattle.alg_proof.proofs.PatternSorts.{row_ok, rows_ok}
+use Rattle.alg_proof.proofs.PatternLaws.{row_ok-statement}
 
 laws_ok : rows_ok law_table ≡ true
 unfolding law_table law_groups sum_laws multiple_laws product_laws power_laws semiring_laws field_laws unequal_laws order_laws min_max_laws ordered_semiring_laws ordered_ring_laws

@@ -18,8 +18,8 @@ use Rattle.alg_law.specs.WellSorted.{sort_mark, head_mark, mark_of, IsWellSorted
 use Rattle.alg_law.proofs.WellSortedLaws.{worse-good, known-from_good, literal-good, sum-good, product-good, semiring-add}
 use Rattle.alg_law.specs.LeanFunctions.{IsNaturalValue, IsIntegerValue}
 use Rattle.alg_law.specs.Derivations.{numeral, related, LiteralLaw, next_literal, distinct, smul_literal, zsmul_literal, zpow_literal, natural_value, integer_value, natural_divides, integer_divides, Derivable, reflexive, symmetric, transitive, congruent, substitution, row, literal_law, hypothesis, rest}
-use Rattle.alg_proof.specs.PatternLaws.{or_else, char_zero-semiring}
-use Rattle.alg_proof.specs.LawSorts.{law-statement}
+use Rattle.alg_proof.proofs.PatternLaws.{or_else, char_zero-semiring}
+use Rattle.alg_proof.proofs.LawSorts.{law-statement}
 
 -- an equation of well sorted trees of one sort is a statement
 pub equation-good : (ds : List Declaration) (x y : Tree) → IsWellSorted ds x → IsWellSorted ds y → sort_of_tree y ≡ sort_of_tree x → IsStatement ds (equal x y)
