@@ -13,9 +13,9 @@ use Rattle.alg_law.specs.declared.marks.Mark.{Mark}
 use Rattle.alg_law.specs.declared.marks.Mark.TheVariants.{Good, NoInstance, BadSort, BadName}
 use Rattle.alg_law.specs.Declarations.{Declaration}
 use Rattle.alg_law.specs.WellSorted.{mark_of, has_relation, IsStatement}
-use Rattle.alg_certificate.specs.NumberLaws.{some_is}
-use Rattle.alg_certificate.specs.LexingLaws.{front_is, behind_is}
-use Rattle.alg_certificate.specs.Wordlike.{sort_word}
+use Rattle.alg_certificate.proofs.NumberLaws.{some_is}
+use Rattle.alg_certificate.proofs.LexingLaws.{front_is, behind_is}
+use Rattle.alg_certificate.proofs.Wordlike.{sort_word}
 use Rattle.alg_certificate.specs.Cutting.{after}
 use Rattle.alg_certificate.specs.Tokens.{is_word, all_word, begins_word, is_some_word, front, behind, first_word}
 use Rattle.alg_certificate.specs.Words.{sort_bytes, relation_bytes}

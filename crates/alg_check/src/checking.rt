@@ -5,7 +5,7 @@ ghost use Rattle.alg_proof.specs.LemmaRows.{rows_of};
 ghost use Rattle.alg_certificate.specs.Reader.{coming_of};
 ghost use Rattle.alg_check.specs.Checking.{Checks, SaysOnly};
 ghost use Rattle.alg_check.specs.Entries.{Entry, EntryHasSpelling};
-ghost use Rattle.alg_check.specs.EntryLaws.{SomeEntries};
+ghost use Rattle.alg_check.specs.Entries.{SomeEntries};
 ghost use Rattle.alg_check.specs.Findings.{finding_of, is_accepted};
 ghost use Rattle.alg_check.specs.Found.{seen_finding, counted};
 ghost use Rattle.alg_check.specs.Goals.{goals_seen};

@@ -3,6 +3,7 @@
 
 mod checking;
 mod entries;
+mod process;
 mod program;
 mod proofs;
 mod proving;
@@ -10,6 +11,7 @@ mod status;
 mod work;
 
 pub use alg_host::{Failed, Host, LoadFault, MemoryHost, RealHost};
+pub use process::run_process;
 pub use program::{Extensions, run};
 pub use status::Status;
 

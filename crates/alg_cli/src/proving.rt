@@ -10,7 +10,7 @@ ghost use Rattle.alg_lemma.specs.Lemmas.{lemma_table};
 ghost use Rattle.alg_kernel.specs.Claims.{Claim};
 ghost use Rattle.alg_parse.specs.FileTrees.{IsGoalIn};
 ghost use Rattle.alg_show.specs.ReadingBack.{AreDeclarable};
-ghost use Rattle.alg_certificate_lines.specs.SpellingLaws.{HaveArguments};
+ghost use Rattle.alg_certificate_lines.specs.Arguments.{HaveArguments};
 ghost use Rattle.alg_cli.specs.Seen.{call_seen, calls_seen, goal_seen};
 ghost use Rattle.alg_cli.specs.Verdict.{cause_of_answer, cause_of_call, when_closed, verdict_of};
 ghost use Rattle.alg_cli.specs.Certificate.{claim_in, theory_for, entry_bytes};

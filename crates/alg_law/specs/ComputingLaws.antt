@@ -6,9 +6,9 @@ use Rattle.std.proofs.lemmas.Int.{ints}
 use Rattle.std.proofs.lemmas.Nat.Gcd.{dvd_of_mod-eq-zero, dvd-zero}
 use Rattle.std.proofs.Math.IntN.{*ℤ_comm, pos-*ℤ-negsuc}
 use Rattle.std.proofs.Math.Nat.{div-add-mod, div-mul_cancel, mul-div_cancel', dvd-mul_left, dvd-mul_right, mul-dvd-mul_left, dvd_of_mul-dvd-mul_right, eq-zero_of_zero-dvd, mod-eq-zero_of_dvd}
-use Rattle.alg_num.specs.CoprimeLaws.{gcd_positive, coprime_quotients, divides_other}
+use Rattle.alg_num.proofs.CoprimeLaws.{gcd_positive, coprime_quotients, divides_other}
 use Rattle.alg_num.specs.Reduced.{greatest_divisor}
-use Rattle.alg_num.specs.ReducedLaws.{IsGcd-greatest_divisor}
+use Rattle.alg_num.proofs.ReducedLaws.{IsGcd-greatest_divisor}
 use Rattle.alg_terms.specs.declared.symbols.Sym.{Sym}
 use Rattle.alg_terms.specs.declared.symbols.Sym.TheVariants.{Add, Mul, Neg, Sub, Inv, Div, Npow, Zpow, Nsmul, Zsmul, Abs, Min, Max, NatSub, IDiv, Mod, Gcd, Lcm, Fact, Choose, Fib, Apply}
 use Rattle.alg_law.specs.LeanFunctions.{IsLcm, IsDivision, IsIntegerQuotient, IsIntegerRemainder, IsNaturalValue, IsIntegerValue}
@@ -43,7 +43,7 @@ least_for zero b g k d s t = of_zero k _ s
 least_for (suc a) zero g k d s t = of_zero k _ t
 least_for (suc a) (suc b) g k d s t = least_of (suc a) (suc b) g k (omega arith) (omega arith) d s t
 
-IsLcm-least_multiple : (a b : ℕ) → IsLcm a b (least_multiple a b)
+pub IsLcm-least_multiple : (a b : ℕ) → IsLcm a b (least_multiple a b)
 IsLcm-least_multiple a b =
     let g = greatest_divisor a b in
     let d : IsGcd a b g = IsGcd-greatest_divisor a b in

@@ -2,7 +2,7 @@
 use Rattle.std.proofs.Common.{◌≡◌, ℤ, pos, ◌+ℤ◌, ◌*ℤ◌, ◌-ℤ◌, neg_ℤ, arith, ap, sym, ◌∙◌}
 use Rattle.std.proofs.lemmas.Int.{ints}
 use Rattle.std.proofs.Math.IntN.{neg_ℤ-neg_ℤ}
-pub use Rattle.alg_num.specs.IntegerLaws.{*ℤ_assoc, *ℤ-pos_one, *ℤ-+ℤ, +ℤ-*ℤ, *ℤ--ℤ, neg_ℤ-*ℤ, *ℤ-neg_ℤ, *ℤ_swap_middle}
+pub use Rattle.alg_num.proofs.IntegerLaws.{*ℤ_assoc, *ℤ-pos_one, *ℤ-+ℤ, +ℤ-*ℤ, *ℤ--ℤ, neg_ℤ-*ℤ, *ℤ-neg_ℤ, *ℤ_swap_middle}
 
 pub pos_one-*ℤ : (a : ℤ) → pos 1 *ℤ a ≡ a
 pos_one-*ℤ a = omega (arith, ints)

@@ -1,7 +1,7 @@
 -- Laws of the powers of integers: those of alg_num, and some that follow from them.
 use Rattle.std.proofs.Common.{◌≡◌, ℕ, zero, suc, ◌+◌, ◌*◌, ℤ, pos, ◌*ℤ◌, arith, ap, ap₂, sym, ◌∙◌, mul-zero}
 use Rattle.std.specs.Int.{int_pow}
-pub use Rattle.alg_num.specs.PowerLaws.{int_pow-zero, int_pow-suc, int_pow-add}
+pub use Rattle.alg_num.proofs.PowerLaws.{int_pow-zero, int_pow-suc, int_pow-add}
 use Rattle.alg_law.specs.IntegerLaws.{*ℤ-pos_one, *ℤ_swap_middle}
 
 pub int_pow-mul : (a : ℤ) (m n : ℕ) → int_pow a (m * n) ≡ int_pow (int_pow a m) n

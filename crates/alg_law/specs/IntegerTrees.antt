@@ -22,7 +22,8 @@ use Rattle.alg_law.specs.Declarations.{Declaration, Carrier, Instance, Variable,
 use Rattle.alg_law.specs.Having.{has_class, instances_give}
 use Rattle.alg_law.specs.IntegerBases.{IsIntegerBase}
 use Rattle.alg_law.specs.IntegerOrder.{product_not_below, power_not_below, natural_not_below}
-use Rattle.alg_law.specs.IntegerValues.{natural, integer_quotient, integer_remainder, at_one, at_two, applied, value_of, values_of}
+use Rattle.alg_law.specs.Computing.{integer_quotient, integer_remainder}
+use Rattle.alg_law.specs.IntegerValues.{natural, at_one, at_two, applied, value_of, values_of}
 use Rattle.alg_law.specs.Valuations.{Valuation, Listed, is_listed_at, same_integers, result_at, IsResult, IsValuation}
 use Rattle.alg_law.specs.WellSorted.{variable_of, function_of, sort_mark, of_sort, same_mark, class_mark, sorts_agree, sorts_same, of_function, has_classes, built_in_mark, symbol_mark, head_mark, sorts_of, mark_of, marks_of, IsWellSorted, AreWellSorted}
 use Rattle.alg_law.specs.WellSortedLaws.{worse-parts}

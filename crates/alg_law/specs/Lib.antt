@@ -6,7 +6,7 @@ pub mod Growing
 pub mod Having
 pub mod HavingLaws
 pub mod Lawful
-pub mod Looking
+pub mod Signatures
 pub mod Marks
 pub mod Patterns
 pub mod WellSorted
@@ -21,6 +21,7 @@ pub mod OrderedRingLaws
 pub mod Laws
 pub mod LawTableLaws
 pub mod LawRows
+pub mod LawIndexing
 pub mod RowNames
 pub mod LeanFunctions
 pub mod Computing

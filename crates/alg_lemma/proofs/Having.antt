@@ -89,11 +89,11 @@ module _ (ds : List Declaration) (s : Sort) (ns : List Need) (lawful : IsLawful 
 
   lawful_ordered : has_class ds s IsStrictOrderedRing ≡ true → (has_class ds s Semiring && has_class ds s LinearOrder) ≡ true
   lawful_ordered h =
-      from_not (has_class ds s IsStrictOrderedRing) (has_class ds s Semiring && has_class ds s LinearOrder) (and_parts _ _ (and_parts _ _ (lawful s)).0).1 h
+      from_not (has_class ds s IsStrictOrderedRing) (has_class ds s Semiring && has_class ds s LinearOrder) (and_parts _ _ (and_parts _ _ (and_parts _ _ (lawful s)).0).0).1 h
 
   lawful_characteristic : has_class ds s CharZero ≡ true → has_class ds s Semiring ≡ true
   lawful_characteristic h =
-      from_not (has_class ds s CharZero) (has_class ds s Semiring) (and_parts _ _ (and_parts _ _ (lawful s)).0).0 h
+      from_not (has_class ds s CharZero) (has_class ds s Semiring) (and_parts _ _ (and_parts _ _ (and_parts _ _ (lawful s)).0).0).0 h
 
   have_two : (b c : Class) → Has ds s b → Has ds s c → HaveAll ds s (b ∷ c ∷ [])
   have_two b c h k x e =

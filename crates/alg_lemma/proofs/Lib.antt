@@ -3,3 +3,4 @@ mod Having
 mod Filled
 mod Following
 mod Adding
+pub mod Named

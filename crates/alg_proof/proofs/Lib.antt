@@ -1,1 +1,3 @@
 mod TableLemmas
+mod PlaceLemmas
+pub mod Forward

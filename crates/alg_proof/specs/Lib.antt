@@ -1,4 +1,5 @@
 pub mod Names
+pub mod KeptNames
 pub mod Following
 pub mod LemmaRows
 pub mod Causes
@@ -7,6 +8,8 @@ pub mod LiteralLines
 pub mod Computations
 pub mod Steps
 pub mod Lines
+pub mod Places
+pub mod Citing
 pub mod Valid
 pub mod LiteralSums
 pub mod PatternSorts

@@ -52,10 +52,10 @@ from_order false false true lo gr e h = cc
 
 module _ (ds : List Declaration) (lawful : IsLawful ds) (s : Sort) where
   pub char_zero-semiring : has_class ds s class.CharZero ≡ true → has_class ds s class.Semiring ≡ true
-  char_zero-semiring h = from_char _ _ _ _ _ (lawful s) h
+  char_zero-semiring h = from_char _ _ _ _ _ (and_parts _ _ (lawful s)).0 h
 
   pub ordered-parts : has_class ds s class.IsStrictOrderedRing ≡ true → (has_class ds s class.Semiring ≡ true) × (has_class ds s class.LinearOrder ≡ true)
-  ordered-parts h = from_order _ _ _ _ _ (lawful s) h
+  ordered-parts h = from_order _ _ _ _ _ (and_parts _ _ (lawful s)).0 h
 
   comes : (k c : Class) → comes_with k c ≡ true → has_class ds s k ≡ true → has_class ds s c ≡ true
   comes class.Semigroup c e h = has_class-all ds s class.Semigroup c e h

@@ -6,26 +6,28 @@ ghost use Rattle.alg_proof.specs.Following.{IsAdmissible};
 use crate::lemma_rows::LemmaRow;
 use crate::row_names::RowName;
 use alg_expr::Memory;
+use indexmap::IndexMap;
 use std::alloc::Global;
 use std::marker::Model;
 
 /// A table of lemmas, each of which follows from the laws. It only grows. Contracts see the list of its rows.
 #[derive(Drop)]
 pub struct Lemmas {
-    rows: Vec<&'static LemmaRow>,
+    // each under its name, in the order in which they came
+    rows: IndexMap<&'static str, &'static LemmaRow>,
 }
 
 impl Model for Lemmas {
-    ghost use Rattle.std.specs.Prelude.{List, map, All};
+    ghost use Rattle.std.specs.Prelude.{◌≡◌, List, map, All};
     ghost use Rattle.alg_proof.specs.declared.lemma_rows.LemmaRow.{LemmaRow};
     ghost use Rattle.alg_proof.specs.LemmaRows.{lemma_row_of, rows_of};
     ghost use Rattle.alg_proof.specs.Following.{IsAdmissible};
 
     ghost Value = { List LemmaRow };
 
-    ghost view = { λ t. map (λ r. r.now) t.rows.items };
+    ghost view = { λ t. map (λ e. e.1.now) t.rows.entries };
 
-    ghost invariant = { λ t. All IsAdmissible (rows_of (map (λ r. r.now) t.rows.items)) };
+    ghost invariant = { λ t. All IsAdmissible (rows_of (map (λ e. e.1.now) t.rows.entries)) × (map (λ e. e.0.now) t.rows.entries ≡ map (λ e. e.1.now.row.name.now) t.rows.entries) };
 }
 
 impl Lemmas {
@@ -34,7 +36,7 @@ impl Lemmas {
         ensures { IfOk result (λ t. t ≡ []) }
     {
         Ok(Lemmas {
-            rows: Vec::new(alloc),
+            rows: IndexMap::new(alloc),
         })
     }
 
@@ -45,7 +47,7 @@ impl Lemmas {
         ensures ok { OnOk result (self.new ≡ self.old ++ row.now ∷ []) }
         ensures err { OnErr result (self.new ≡ self.old) }
     {
-        self.rows.push(row)?;
+        self.rows.insert(row.row.name, row)?;
         Ok(())
     }
 
@@ -53,7 +55,10 @@ impl Lemmas {
     pub fn get(&self, name: &RowName) -> Option<&'static LemmaRow>
         ensures row { option_map (λ r. lemma_row_of r.now) result ≡ row_named (rows_of self.now) name.now }
     {
-        first_named(self.rows.as_slice(), name.as_str())
+        match self.rows.get(name.as_str()) {
+            Some(row) => Some(*row),
+            None => None,
+        }
     }
 
     /// How many lemmas there are. Each follows from the laws.
@@ -63,16 +68,4 @@ impl Lemmas {
     {
         self.rows.len()
     }
-}
-
-// the first lemma with this name
-fn first_named(rows: &[&'static LemmaRow], name: &str) -> Option<&'static LemmaRow>
-    ensures { option_map (λ r. lemma_row_of r.now) result ≡ row_named (rows_of (map (λ r. r.now) rows.now)) name.now }
-{
-    for row in rows {
-        if row.row.name == name {
-            return Some(*row);
-        }
-    }
-    None
 }
