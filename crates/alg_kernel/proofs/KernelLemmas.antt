@@ -30,8 +30,8 @@ use Rattle.alg_kernel.specs.declared.kernel.Kernel.{Kernel}
 use Rattle.alg_kernel.specs.Answers.{IsFed, IsPassed, GivesVerdict}
 use Rattle.alg_kernel.specs.Progress.{Progress, Going, Stopped, next, advance, outcome}
 use Rattle.alg_kernel.specs.State.{theory_of, IsGivenIn, reached, progress_of, IsSound, IsFresh, Answers, AnswersAll}
-use Rattle.alg_kernel.specs.Growing.{step_of-extends, theory_of-extends, IsSound-extends}
-use Rattle.alg_kernel.specs.Verdicts.{advance-stopped, verdict-advance}
+use Rattle.alg_kernel.proofs.Growing.{step_of-extends, theory_of-extends, IsSound-extends}
+use Rattle.alg_kernel.proofs.Verdicts.{advance-stopped, verdict-advance}
 use Rattle.alg_kernel.proofs.CongLemmas.{passed}
 
 -- one more statement
