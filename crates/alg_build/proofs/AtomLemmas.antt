@@ -1,6 +1,6 @@
 -- The set of atoms as a list of trees.
-use Rattle.std.proofs.Common.{◌≡◌, suc, ◌+◌, List, [], ◌∷◌, ◌++◌, Bool, true, false, ◌||◌, All, refl, ap, sym, subst, arith}
-use Rattle.std.specs.Prelude.{nat_eq, not, cond, if◌then◌else◌}
+use Rattle.std.proofs.Common.{◌≡◌, ℕ, suc, ◌+◌, ◌<◌, List, [], ◌∷◌, ◌++◌, Bool, true, false, ◌||◌, All, refl, ap, sym, subst, arith}
+use Rattle.std.specs.Prelude.{length, Some, slice_get, nat_eq, not, cond, if◌then◌else◌}
 use Rattle.std.specs.List.{list_any, position_or_len}
 use Rattle.std.proofs.lemmas.Bool.Decides.{nat_tests}
 use Rattle.std.proofs.lemmas.List.Elements.{All-head, All-tail, All-push}
@@ -16,6 +16,37 @@ use Rattle.alg_expr.proofs.DistinctLaws.{same_id-from_tree}
 use Rattle.alg_build.specs.Atoms.{with_atom, number_of}
 use Rattle.alg_build.specs.Book.{Book}
 use Rattle.alg_build.specs.Inside.{Held, book_of, IsSound}
+
+-- the tree stands at its number
+pub atom_stands : (ts : List Tree) (t : Tree) → slice_get (with_atom ts t) (number_of ts t) ≡ Some t
+atom_stands [] t = refl
+atom_stands (a ∷ ts) t = go (tree_same a t) (tree_same-equal a t) (atom_stands ts t)
+  where
+    go : (b : Bool) → (b ≡ true → a ≡ t) → slice_get (with_atom ts t) (number_of ts t) ≡ Some t → slice_get (if b then a ∷ ts else a ∷ with_atom ts t) (if b then 0 else suc (number_of ts t)) ≡ Some t
+    go true h k = ap Some (h refl)
+    go false h k = k
+
+-- a tree keeps its number as others come after it
+pub number_stays : (ts more : List Tree) (t : Tree) → number_of ts t < length ts → number_of (ts ++ more) t ≡ number_of ts t
+number_stays [] more t h = absurd (omega (arith, h))
+number_stays (a ∷ ts) more t h = go (tree_same a t) (number_stays ts more t) h
+  where
+    go : (b : Bool) → (number_of ts t < length ts → number_of (ts ++ more) t ≡ number_of ts t) → (if b then 0 else suc (number_of ts t)) < suc (length ts) → (if b then 0 else suc (number_of (ts ++ more) t)) ≡ (if b then 0 else suc (number_of ts t))
+    go true k l = refl
+    go false k l = ap suc (k (omega (arith, l)))
+
+append-none : (l : List Tree) → l ≡ l ++ []
+append-none [] = refl
+append-none (x ∷ xs) = ap (λ k. x ∷ k) (append-none xs)
+
+-- the trees that were there stay where they were
+pub with_atom-grows : (ts : List Tree) (t : Tree) → (more : List Tree) × (with_atom ts t ≡ ts ++ more)
+with_atom-grows [] t = (t ∷ [], refl)
+with_atom-grows (a ∷ ts) t = go (tree_same a t) (with_atom-grows ts t)
+  where
+    go : (b : Bool) → ((more : List Tree) × (with_atom ts t ≡ ts ++ more)) → (more : List Tree) × ((if b then a ∷ ts else a ∷ with_atom ts t) ≡ a ∷ (ts ++ more))
+    go true h = ([], ap (λ l. a ∷ l) (append-none ts))
+    go false h = (h.0, ap (λ l. a ∷ l) h.1)
 
 abbrev pub same : ExprId → ExprId → Bool
 same = (id_eq.ghosts).eq

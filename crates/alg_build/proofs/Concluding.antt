@@ -19,7 +19,7 @@ use Rattle.alg_terms.specs.declared.causes.BadCause.{BadCause}
 use Rattle.alg_law.specs.Derivations.{related}
 use Rattle.alg_proof.specs.Lines.{step_of, IsLineIn}
 use Rattle.alg_proof.specs.Steps.{Theory, Step, Trans, Subst, conclude}
-use Rattle.alg_build.specs.Good.{Leads}
+use Rattle.alg_build.specs.Good.{MayConclude}
 use Rattle.alg_build.proofs.Growing.{step_of-extends}
 use Rattle.alg_proof.specs.Causes.{line_at}
 use Rattle.alg_build.specs.Book.{Book, fact, stated, left_at, right_at, IsThere, IsEquation, KeepsLines, Adds, Makes}
@@ -123,18 +123,18 @@ not_added a b c (Err m) k p = rw p k
 
 -- a line of any kind
 
-line_leads : (a b : Book) (l : Line) (s : Statement) → KeepsLines a b → IsLineIn a.trees l → Leads a (step_of a.trees l) s → Leads b (step_of b.trees l) s
+line_leads : (a b : Book) (l : Line) (s : Statement) → KeepsLines a b → IsLineIn a.trees l → MayConclude a (step_of a.trees l) s → MayConclude b (step_of b.trees l) s
 line_leads a b l s k h e = (λ i. conclude (k.theory i) (k.done i) (step_of-extends a.trees b.trees l k.trees h i)) ∙ e
 
-pub line_good : (a b : Book) (l : Line) (s : Stmt) → KeepsLines a b → IsLineIn a.trees l → Leads a (step_of a.trees l) (statement_of b.trees s) → Leads b (step_of b.trees l) (statement_of b.trees s)
+pub line_good : (a b : Book) (l : Line) (s : Stmt) → KeepsLines a b → IsLineIn a.trees l → MayConclude a (step_of a.trees l) (statement_of b.trees s) → MayConclude b (step_of b.trees l) (statement_of b.trees s)
 line_good a b l s k h e = line_leads a b l (statement_of b.trees s) k h e
 
 ok-same : (s t : Statement) (r : Result Statement BadCause) → r ≡ Ok s → r ≡ Ok t → s ≡ t
 ok-same s t (Ok x) e f = cc
 ok-same s t (Err x) e f = cc
 
-pub line_adds : (a b c : Book) (l : Line) (s : Stmt) (r : Result ℕ Memory) → KeepsLines a b → IsLineIn a.trees l → Leads a (step_of a.trees l) (statement_of b.trees s)
-    → IfOk r (λ n. Adds b c n (step_of b.trees l) (statement_of b.trees s)) → IfOk r (λ n. (t : Statement) → Leads a (step_of a.trees l) t → Adds a c n (step_of a.trees l) t)
+pub line_adds : (a b c : Book) (l : Line) (s : Stmt) (r : Result ℕ Memory) → KeepsLines a b → IsLineIn a.trees l → MayConclude a (step_of a.trees l) (statement_of b.trees s)
+    → IfOk r (λ n. Adds b c n (step_of b.trees l) (statement_of b.trees s)) → IfOk r (λ n. (t : Statement) → MayConclude a (step_of a.trees l) t → Adds a c n (step_of a.trees l) t)
 line_adds a b c l s (Err m) k h e p = tt
 line_adds a b c l s (Ok n) k h e p =
     λ t f. adds_after a b c n (step_of a.trees l) (statement_of b.trees s) t k (subst (λ (x : Step). Adds b c n x (statement_of b.trees s)) (step_of-extends a.trees b.trees l k.trees h) p) (ok-same (statement_of b.trees s) t _ e f)

@@ -19,7 +19,7 @@ use Rattle.alg_law.specs.Declarations.{Declaration}
 use Rattle.alg_law.specs.WellSorted.{IsStatement, head_mark, sorts_of}
 use Rattle.alg_proof.specs.Steps.{Cong, conclude, value_sort}
 use Rattle.alg_build.specs.Book.{Book, KeepsLines, Makes, Adds, IsThere, IsEquation, fact, left_at, right_at, lefts_at, rights_at}
-use Rattle.alg_build.specs.Good.{Leads}
+use Rattle.alg_build.specs.Good.{MayConclude}
 use Rattle.alg_build.specs.Sides.{AreSides}
 use Rattle.alg_build.proofs.Concluding.{adds_after}
 use Rattle.alg_build.proofs.Fitting.{fits, cong_good}
@@ -132,7 +132,7 @@ module _ (b : Book) (is : List ℕ) (ls rs : List ExprId) (h : AreSides b is ls 
 -- the line of a congruence, after new trees
 
 module _ (a b : Book) (f : Sym) (is ns : List ℕ) (t : Statement) (e : ns ≡ is) (k : KeepsLines a b) (q : (s : Sort) → head_mark a.theory.declarations f s (sorts_of (lefts_at a is)) ≡ Good → t ≡ equal (App f s (lefts_at a is)) (App f s (rights_at a is))) where
-  pub cong_leads : All (IsEquation a) is → (s : Sort) × (head_mark a.theory.declarations f s (sorts_of (lefts_at a is)) ≡ Good) → Leads b (Cong f ns) t
+  pub cong_leads : All (IsEquation a) is → (s : Sort) × (head_mark a.theory.declarations f s (sorts_of (lefts_at a is)) ≡ Good) → MayConclude b (Cong f ns) t
   cong_leads h p = (λ i. conclude (k.theory i) (k.done i) (Cong f (e i))) ∙ cong_good a f p.0 is h p.1 ∙ ap Ok (sym (q p.0 p.1))
 
   pub cong_adds : (c : Book) (r : Result ℕ Memory) → IfOk r (λ n. Adds b c n (Cong f ns) t)

@@ -26,8 +26,9 @@ use Rattle.alg_law.specs.WellSorted.{IsStatement}
 use Rattle.alg_proof.specs.Steps.{Theory, Step, Refl, Symm, Trans, Cong, Subst, Law, Lemma, Hyp, Rest, LitAdd, LitMul, LitRel, Bridge, Compute, conclude}
 use Rattle.alg_terms.specs.declared.causes.BadCause.TheVariants as cause
 use Rattle.alg_proof.specs.Causes.{line_at, or_cause}
-use Rattle.alg_build.specs.Book.{Book, KeepsLines, Makes, Gives, IsThere, fact, stated}
-use Rattle.alg_build.specs.Good.{AreGood, none, one_more, good_fine}
+use Rattle.alg_build.specs.Book.{Book, KeepsLines, Makes, Rests, IsThere, fact, stated}
+use Rattle.alg_build.specs.Good.{AreGood, none, one_more}
+use Rattle.alg_build.proofs.Accepting.{good_fine}
 use Rattle.alg_build.specs.Inside.{Held, theory_of, book_of, IsSound}
 
 pub grown : {E : Type 0} (old new : List Tree) (t : Tree) (r : Result ExprId E) → IfOk r (λ e. GrowsBy old new e t) → OnErr r (new ≡ old) → Extends old new
@@ -226,7 +227,7 @@ given_is_good h k = given-good h.declarations h.trees h.given k.given_in k.theor
 pub all_fine : (h : Held) → IsSound h → AllFine h.declarations (option_map (statement_of h.trees) h.given) (statements_of h.trees h.done)
 all_fine h k = good_fine (theory_of h) (steps_of h.trees h.lines) (statements_of h.trees h.done) k.theory k.good
 
-pub gives : (h : Held) (s : Stmt) (old : Book) (n : ℕ) → book_of h ≡ old → n ≡ length (h.done ++ s ∷ []) → Gives old (book_of (record h { lines = h.lines ++ line.Rest ∷ []; done = h.done ++ s ∷ []; given = Some s })) n (statement_of old.trees s)
+pub gives : (h : Held) (s : Stmt) (old : Book) (n : ℕ) → book_of h ≡ old → n ≡ length (h.done ++ s ∷ []) → Rests old (book_of (record h { lines = h.lines ++ line.Rest ∷ []; done = h.done ++ s ∷ []; given = Some s })) n (statement_of old.trees s)
 gives h s old n same e = rw (← same) (record {
   theory = refl;
   trees = refl;

@@ -1,3 +1,4 @@
+pub mod Accepting
 pub mod Growing
 pub mod Concluding
 pub mod Fitting
@@ -8,3 +9,15 @@ pub mod Leading
 pub mod Scaling
 pub mod CongruenceLemmas
 pub mod TestLemmas
+pub mod Forward
+pub mod RowLines
+pub mod Rewritings
+pub mod TwoParts
+pub mod ListLemmas
+pub mod AnswerLemmas
+pub mod ClosingLemmas
+pub mod RowFacts
+pub mod LineRules
+pub mod HeadFacts
+pub mod OnePart
+pub mod LawNames

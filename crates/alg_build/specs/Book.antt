@@ -96,7 +96,7 @@ pub record Adds (a b : Book) (n : ℕ) (l : Step) (s : Statement) : Type 0 where
   pub atoms : b.atoms ≡ a.atoms
 
 -- the statement is given now, and the new line of this number is the one that concludes it
-pub record Gives (a b : Book) (n : ℕ) (s : Statement) : Type 0 where
+pub record Rests (a b : Book) (n : ℕ) (s : Statement) : Type 0 where
   pub theory : b.theory ≡ record a.theory { given = Some s }
   pub trees : b.trees ≡ a.trees
   pub steps : b.steps ≡ a.steps ++ Rest ∷ []

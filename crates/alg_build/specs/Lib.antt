@@ -4,7 +4,10 @@ pub mod Good
 pub mod RowCodes
 pub mod Codes
 pub mod Inside
-pub mod Accepting
 pub mod Backs
 pub mod Combos
 pub mod Sides
+pub mod Citing
+pub mod Rewriting
+pub mod Answer
+pub mod Computing

@@ -8,8 +8,8 @@ ghost use Rattle.alg_proof.specs.Causes.{line_at};
 ghost use Rattle.alg_proof.specs.Lines.{step_of, steps_of, IsLineIn};
 ghost use Rattle.alg_proof.specs.Valid.{IsValid};
 ghost use Rattle.alg_build.specs.Atoms.{with_atom, number_of};
-ghost use Rattle.alg_build.specs.Book.{fact, IsThere, KeepsLines, Adds, Gives, Makes};
-ghost use Rattle.alg_build.specs.Good.{AreGood, IsGood, Leads};
+ghost use Rattle.alg_build.specs.Book.{fact, IsThere, KeepsLines, Adds, Rests, Makes};
+ghost use Rattle.alg_build.specs.Good.{AreGood, IsGood, MayConclude};
 ghost use Rattle.alg_build.specs.Inside.{theory_over};
 
 use alg_expr::{Arena, ExprId, Memory, Sort, Stmt, Sym};
@@ -177,7 +177,7 @@ impl Builder {
     pub(crate) fn add(&mut self, line: Line, s: Stmt) -> Result<usize, Memory>
         requires line_in { IsLineIn self.old.trees line }
         requires statement_in { IsStatementIn self.old.trees s }
-        requires good { Leads self.old (step_of self.old.trees line) (statement_of self.old.trees s) }
+        requires good { MayConclude self.old (step_of self.old.trees line) (statement_of self.old.trees s) }
         ensures ok { IfOk result (λ n. Adds self.old self.new n (step_of self.old.trees line) (statement_of self.old.trees s)) }
         ensures err { OnErr result (self.new ≡ self.old) }
     {
@@ -197,7 +197,7 @@ impl Builder {
         requires line_in { IsLineIn self.old.trees line.now }
         requires good { IsGood self.old (step_of self.old.trees line.now) }
         ensures here { IfOk result (λ s. IsStatementIn self.new.trees s) }
-        ensures concludes { IfOk result (λ s. Leads self.old (step_of self.old.trees line.now) (statement_of self.new.trees s)) }
+        ensures concludes { IfOk result (λ s. MayConclude self.old (step_of self.old.trees line.now) (statement_of self.new.trees s)) }
         ensures keeps { KeepsLines self.old self.new }
     {
         conclusion(
@@ -215,7 +215,7 @@ impl Builder {
         requires nothing { self.old.theory.given ≡ None }
         requires here { IsStatementIn self.old.trees s }
         requires sorted { IsStatement self.old.theory.declarations (statement_of self.old.trees s) }
-        ensures gives { IfOk result (λ n. Gives self.old self.new n (statement_of self.old.trees s)) }
+        ensures gives { IfOk result (λ n. Rests self.old self.new n (statement_of self.old.trees s)) }
         ensures err { OnErr result (self.new ≡ self.old) }
     {
         let before = self.lines.len();

@@ -1,14 +1,20 @@
-ghost use Rattle.std.specs.Prelude.{◌≡◌, ◌≤◌, All, IfOk, OnErr, take};
+ghost use Rattle.std.specs.Prelude.{◌≡◌, ◌≤◌, All, IfOk, OnErr, Some, take};
 ghost use Rattle.alg_terms.specs.declared.sorts.Sort.{Sort as SortKind};
 ghost use Rattle.alg_terms.specs.Tree.{App, Statement, equal};
 ghost use Rattle.alg_expr.specs.Ids.{trees_at, IsIn};
 ghost use Rattle.alg_law.specs.declared.marks.Mark.TheVariants.{Good};
+ghost use Rattle.alg_law.specs.Laws.{law_table, row_named};
+ghost use Rattle.alg_law.specs.LawRows.{row_of};
+ghost use Rattle.alg_law.specs.Rows.{MayFill};
 ghost use Rattle.alg_law.specs.WellSorted.{head_mark, sorts_of};
+ghost use Rattle.alg_proof.specs.Causes.{statements_at};
+ghost use Rattle.alg_proof.specs.LemmaRows.{lemma_row_of};
 ghost use Rattle.alg_proof.specs.Names.{IsName};
 ghost use Rattle.alg_proof.specs.Lines.{step_of, IsLineIn};
 ghost use Rattle.alg_proof.specs.Steps.{Cong, Law as LawStep, Lemma as LemmaStep};
 ghost use Rattle.alg_build.specs.Book.{lefts_at, rights_at, IsEquation, Grows, KeepsLines, Adds};
-ghost use Rattle.alg_build.specs.Good.{IsGood, Leads};
+ghost use Rattle.alg_build.specs.Citing.{premises_of, conclusion_of};
+ghost use Rattle.alg_build.specs.Good.{IsGood, MayConclude};
 
 use crate::builder::Builder;
 use alg_expr::{ExprId, Items, Memory, Sort, Sym};
@@ -23,7 +29,7 @@ impl Builder {
     pub fn line(&mut self, l: Line) -> Result<usize, Memory>
         requires line_in { IsLineIn self.old.trees l }
         requires good { IsGood self.old (step_of self.old.trees l) }
-        ensures adds { IfOk result (λ n. (s : Statement) → Leads self.old (step_of self.old.trees l) s → Adds self.old self.new n (step_of self.old.trees l) s) }
+        ensures adds { IfOk result (λ n. (s : Statement) → MayConclude self.old (step_of self.old.trees l) s → Adds self.old self.new n (step_of self.old.trees l) s) }
         ensures grows { Grows self.old self.new }
         ensures err { OnErr result (KeepsLines self.old self.new) }
     {
@@ -48,7 +54,7 @@ impl Builder {
 
     /// The conclusion of a law at a sort, for these trees in the order of its letters, from lines that are its
     /// premises.
-    #[tactic(auto, using(crate::proofs::Lines::lines))]
+    #[tactic(auto, using(crate::proofs::RowLines::row_lines))]
     pub fn law(
         &mut self,
         row: &Law,
@@ -56,10 +62,11 @@ impl Builder {
         with: &[ExprId],
         from: &[usize],
     ) -> Result<usize, Memory>
-        requires name { IsName row.now.name.now }
         requires here { All (IsIn self.old.trees) with.now }
-        requires good { IsGood self.old (LawStep row.now.name.now sort (trees_at self.old.trees with.now) from.now) }
-        ensures adds { IfOk result (λ n. (s : Statement) → Leads self.old (LawStep row.now.name.now sort (trees_at self.old.trees with.now) from.now) s → Adds self.old self.new n (LawStep row.now.name.now sort (trees_at self.old.trees with.now) from.now) s) }
+        requires named { row_named law_table row.now.name.now ≡ Some (row_of row.now) }
+        requires fills { MayFill self.old.theory.declarations (row_of row.now) sort (trees_at self.old.trees with.now) }
+        requires premises { statements_at self.old.done from.now ≡ Some (premises_of (row_of row.now) sort (trees_at self.old.trees with.now)) }
+        ensures adds { IfOk result (λ n. Adds self.old self.new n (LawStep row.now.name.now sort (trees_at self.old.trees with.now) from.now) (conclusion_of (row_of row.now) sort (trees_at self.old.trees with.now))) }
         ensures grows { Grows self.old self.new }
         ensures err { OnErr result (KeepsLines self.old self.new) }
     {
@@ -70,7 +77,7 @@ impl Builder {
     }
 
     /// The same of a lemma of the builder's table.
-    #[tactic(auto, using(crate::proofs::Lines::lines))]
+    #[tactic(auto, using(crate::proofs::RowLines::row_lines))]
     pub fn lemma(
         &mut self,
         row: &LemmaRow,
@@ -80,8 +87,10 @@ impl Builder {
     ) -> Result<usize, Memory>
         requires name { IsName row.now.row.name.now }
         requires here { All (IsIn self.old.trees) with.now }
-        requires good { IsGood self.old (LemmaStep row.now.row.name.now sort (trees_at self.old.trees with.now) from.now) }
-        ensures adds { IfOk result (λ n. (s : Statement) → Leads self.old (LemmaStep row.now.row.name.now sort (trees_at self.old.trees with.now) from.now) s → Adds self.old self.new n (LemmaStep row.now.row.name.now sort (trees_at self.old.trees with.now) from.now) s) }
+        requires named { row_named self.old.theory.lemmas row.now.row.name.now ≡ Some (lemma_row_of row.now) }
+        requires fills { MayFill self.old.theory.declarations (lemma_row_of row.now) sort (trees_at self.old.trees with.now) }
+        requires premises { statements_at self.old.done from.now ≡ Some (premises_of (lemma_row_of row.now) sort (trees_at self.old.trees with.now)) }
+        ensures adds { IfOk result (λ n. Adds self.old self.new n (LemmaStep row.now.row.name.now sort (trees_at self.old.trees with.now) from.now) (conclusion_of (lemma_row_of row.now) sort (trees_at self.old.trees with.now))) }
         ensures grows { Grows self.old self.new }
         ensures err { OnErr result (KeepsLines self.old self.new) }
     {

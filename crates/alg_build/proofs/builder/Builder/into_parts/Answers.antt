@@ -1,7 +1,7 @@
 use Rattle.std.proofs.Common.{subst}
 use Rattle.alg_build.specs.Book.{Book}
 use Rattle.alg_build.specs.Good.{AreGood}
-use Rattle.alg_build.specs.Accepting.{good_accepted}
+use Rattle.alg_build.proofs.Accepting.{good_accepted}
 use Rattle.alg_build.proofs.Growing.{given_is_good}
 use Rattle.alg_build.proofs.builder.Builder.into_parts.Goals as goal
 
