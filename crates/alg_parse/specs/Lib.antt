@@ -1,6 +1,5 @@
 pub mod Elaborated
 pub mod Files
 pub mod FileTrees
-pub mod Procedures
 pub mod Progress
 pub mod Told
