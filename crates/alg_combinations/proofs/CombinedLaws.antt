@@ -1,5 +1,5 @@
 -- The parts of a combination as the arena grows, and the jobs that are left.
-use Rattle.std.proofs.Common.{◌≡◌, ℕ, refl, sym, ap, ◌∙◌, subst, List, [], ◌∷◌, ◌++◌, append_assoc, append-nil, map, All, get_or, reverse, Option, Some, None}
+use Rattle.std.proofs.Common.{◌≡◌, ℕ, refl, sym, ap, ◌∙◌, subst, List, [], ◌∷◌, ◌++◌, append_assoc, All, get_or, reverse, Option, Some, None}
 use Rattle.std.proofs.lemmas.List.{reverse-append, map-append}
 use Rattle.std.proofs.lemmas.List.Elements.{All-head, All-tail, All-push}
 use Rattle.alg_terms.specs.declared.sorts.Sort.{Sort}
@@ -7,19 +7,16 @@ use Rattle.alg_terms.specs.Tree as terms
 use Rattle.alg_expr.specs.Arena.{Extends, Extends-self, IsIn-extends, tree_of-extends}
 use Rattle.alg_law.specs.declared.combo.ComboStep.{ComboStep}
 use Rattle.alg_law.specs.declared.combo.ComboStep.TheVariants as step
-use Rattle.alg_law.specs.Combinations.{Part, expression, negative, part_of, parts_at, IsStepIn}
+use Rattle.alg_law.specs.Combinations.{Part, expression, part_of, parts_at, IsStepIn}
 use Rattle.alg_syntax.specs.declared.signs.Operator.{Operator}
 use Rattle.alg_syntax.specs.declared.signs.Operator.TheVariants.{Add, Sub, Mul, Div, Mod, Smul, Pow}
 use Rattle.alg_syntax.specs.Expressions as syntax
-use Rattle.alg_syntax.specs.Nodes.{tree_at}
 use Rattle.alg_names.specs.declared.scope.Scope.{Scope}
-use Rattle.alg_elaborate.specs.Raw.{Raws, applied_at, meant}
+use Rattle.alg_elaborate.specs.Raw.{Raws, applied_at}
 use Rattle.alg_elaborate.specs.TypedTrees.{typed}
 use Rattle.alg_combinations.specs.declared.combining.Job.{Job}
-use Rattle.alg_combinations.specs.declared.combining.Job.TheVariants as job
-use Rattle.alg_combinations.specs.declared.combining.Leaf.{Leaf}
 use Rattle.alg_combinations.specs.Combined.{joint, combined}
-use Rattle.alg_combinations.specs.Combining.{left_of, JobsIn, leaf_of, with_leaf, step_of}
+use Rattle.alg_combinations.specs.Combining.{left_of, JobsIn, step_of}
 
 pub extends_self : (ts : List terms.Tree) → Extends ts ts
 extends_self ts = Extends-self ts

@@ -1,5 +1,5 @@
 -- What an expression says as a combination of hypotheses.
-use Rattle.std.specs.Prelude.{ℕ, List, [], ◌∷◌, ◌++◌, Bool, true, false, Option, Some, None}
+use Rattle.std.specs.Prelude.{List, [], ◌∷◌, ◌++◌, Bool, true, false, Option, Some, None}
 use Rattle.alg_terms.specs.declared.sorts.Sort.{Sort}
 use Rattle.alg_terms.specs.Tree.{Tree}
 use Rattle.alg_law.specs.Combinations.{Part, hypothesis, expression, negative, sum, difference, product, quotient}

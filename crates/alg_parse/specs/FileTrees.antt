@@ -18,6 +18,7 @@ use Rattle.alg_parse.specs.declared.file_trees.Command.TheVariants as command
 use Rattle.alg_parse.specs.declared.file_trees.FileTree.{FileTree}
 use Rattle.alg_parse.specs.Told.{Told, declares, goal, faulty, Call, plain, combination}
 use Rattle.alg_parse.specs.Files.{Known, nothing, Tell}
+use Rattle.alg_parse.specs.Fitting.{ToldFits}
 
 -- a procedure of the code is this call
 abbrev pub IsCall : List Tree → Proc → Call → Type 0
@@ -69,3 +70,4 @@ pub record IsRead (text : List ℕ) (f : FileTree) : Type 0 where
   pub commands_told : AreTold f.arena f.commands told
   pub shared : f.shared ≡ tells.end.shared
   pub each : All (IsCommandIn f.arena f.shared) f.commands
+  pub fit : All (ToldFits f.shared) told

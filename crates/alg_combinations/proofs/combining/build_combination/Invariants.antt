@@ -1,4 +1,4 @@
-use Rattle.std.proofs.Common.{List, length, reverse}
+use Rattle.std.proofs.Common.{length, reverse}
 use Rattle.alg_expr.specs.Arena.{Extends}
 use Rattle.alg_syntax.specs.Nodes.{tree_at}
 use Rattle.alg_elaborate.specs.Raw.{meant}
