@@ -1,4 +1,5 @@
 pub mod Classes
+pub mod Combinations
 pub mod DeclarationCode
 pub mod Declarations
 pub mod Following

@@ -103,11 +103,11 @@ fault_added k told ts s sh us cs ds line cause h e =
     })
 
 -- what is in force says what is declared
-known-follows : (k : Known) → IsWellFormed k.shared → Follows (in_force k) k.shared
-known-follows k h = entered-follows at_first [] k.shared (start-follows at_first refl refl refl) h
+pub known-follows : (k : Known) → IsWellFormed k.shared → Follows (in_force k) k.shared
+known-follows k h = entered-follows at_first [] k.shared (start-follows at_first refl refl refl refl) h
 
 -- what binders without a fault declare may follow it
-binders_fit : (k : Known) (bs : List Binder) → IsWellFormed k.shared → binders_faults (in_force k) bs ≡ [] → AllMayFollow k.shared (declared_by_all (in_force k) bs)
+pub binders_fit : (k : Known) (bs : List Binder) → IsWellFormed k.shared → binders_faults (in_force k) bs ≡ [] → AllMayFollow k.shared (declared_by_all (in_force k) bs)
 binders_fit k bs h e = binders-follow (in_force k) k.shared (known-follows k h) bs e
 
 -- what a command declares

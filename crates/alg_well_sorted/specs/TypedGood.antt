@@ -54,7 +54,7 @@ variable-good ds d k l v known e =
       sort = refl;
     }
 
-name-typed : (ds : List Declaration) (k : Sort) (m : Option Meaning) → IsMeant ds m → IsKnown ds k → name_faults false k m ≡ [] → IsOfSort ds k (typed_name k m)
+pub name-typed : (ds : List Declaration) (k : Sort) (m : Option Meaning) → IsMeant ds m → IsKnown ds k → name_faults false k m ≡ [] → IsOfSort ds k (typed_name k m)
 name-typed ds k None h known e = cc
 name-typed ds k (Some (SortName l)) h known e = cc
 name-typed ds k (Some (Variable d l)) h known e = variable-good ds d k l h.0 known (differs_none k l e)
