@@ -1,1 +1,0 @@
-example : 2 + 2 = 4 := by norm_num
