@@ -2,7 +2,7 @@
 use Rattle.std.specs.Prelude.{◌≡◌, suc, ◌-◌, List, [], ◌∷◌, ◌++◌, length, Some, slice_get}
 use Rattle.std.proofs.Common.{refl, ap, sym, ◌∙◌, arith, append-nil, append_assoc}
 use Rattle.alg_terms.specs.Tree.{Statement}
-use Rattle.alg_terms.specs.Order.{tree_same-self, sort_same-self, rel_same-self}
+use Rattle.alg_terms.proofs.OrderLaws.{tree_same-self, sort_same-self, rel_same-self}
 use Rattle.alg_proof.specs.Steps.{Theory, Step}
 use Rattle.alg_proof.specs.Causes.{line_at}
 use Rattle.alg_proof.specs.Valid.{verdict, verdict_from, go_on, ends_in, Accepted}

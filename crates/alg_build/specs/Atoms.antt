@@ -2,7 +2,8 @@
 use Rattle.std.specs.Prelude.{◌≡◌, ℕ, suc, ◌<◌, Bool, true, false, if◌then◌else◌, List, [], ◌∷◌, ◌++◌, length, Some, slice_get, refl}
 use Rattle.std.proofs.Common.{ap, arith}
 use Rattle.alg_terms.specs.Tree.{Tree}
-use Rattle.alg_terms.specs.Order.{tree_same, tree_same-equal}
+use Rattle.alg_terms.specs.Order.{tree_same}
+use Rattle.alg_terms.proofs.OrderLaws.{tree_same-equal}
 
 -- the tree goes last, where it isn't there
 abbrev pub with_atom : List Tree → Tree → List Tree

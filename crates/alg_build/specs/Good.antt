@@ -2,7 +2,8 @@
 use Rattle.std.specs.Prelude.{◌≡◌, List, [], ◌∷◌, ◌++◌, IsOk, Ok}
 use Rattle.alg_terms.specs.Tree.{Statement}
 use Rattle.alg_proof.specs.Steps.{Theory, Step, conclude}
-use Rattle.alg_proof.specs.Admissible.{IsTheory, AllFine, AllFine-push, conclude-fine}
+use Rattle.alg_proof.specs.Admissible.{IsTheory, AllFine}
+use Rattle.alg_proof.proofs.Admissible.{AllFine-push, conclude-fine}
 use Rattle.alg_build.specs.Book.{Book}
 
 -- each line is good by those before it, and these are their conclusions

@@ -6,7 +6,8 @@ use Rattle.alg_terms.specs.declared.sorts.Sort.{Sort}
 use Rattle.alg_terms.specs.declared.relations.Rel.{Rel}
 use Rattle.alg_terms.specs.declared.relations.Rel.TheVariants as rel
 use Rattle.alg_terms.specs.Tree.{Tree, Trees, Statement, sort_of_tree}
-use Rattle.alg_terms.specs.Order.{sort_same, sort_same-equal}
+use Rattle.alg_terms.specs.Order.{sort_same}
+use Rattle.alg_terms.proofs.OrderLaws.{sort_same-equal}
 use Rattle.alg_expr.specs.declared.ids.Stmt.{Stmt}
 use Rattle.alg_expr.specs.Ids.{IsIn, IsStatementIn, trees_at, statement_of}
 use Rattle.alg_law.specs.declared.marks.Mark.{Mark}

@@ -9,12 +9,13 @@ use Rattle.alg_terms.specs.declared.symbols.Sym.TheVariants as symbol
 use Rattle.alg_terms.specs.declared.symbols.Place.{Place}
 use Rattle.alg_terms.specs.declared.symbols.Place.TheVariants.{Same, OfNat, OfInt}
 use Rattle.alg_terms.specs.Symbols.{places, serves, place_fits, places_fit, arguments_fit}
-use Rattle.alg_terms.specs.Order.{sort_same, sort_same-equal}
+use Rattle.alg_terms.specs.Order.{sort_same}
+use Rattle.alg_terms.proofs.OrderLaws.{sort_same-equal}
 use Rattle.alg_law.specs.declared.marks.Mark.{Mark}
 use Rattle.alg_law.specs.declared.marks.Mark.TheVariants.{Good, BadSort}
 use Rattle.alg_law.specs.Declarations.{Declaration}
 use Rattle.alg_law.specs.WellSorted.{sort_mark, class_mark, same_mark, sorts_same, function_of, of_function, has_classes, built_in_mark, symbol_mark, head_mark}
-use Rattle.alg_law.specs.WellSortedLaws.{worse-parts}
+use Rattle.alg_law.proofs.WellSortedLaws.{worse-parts}
 use Rattle.alg_proof.specs.Steps.{same_sort, second_of, value_sort, name_of, name_mark}
 use Rattle.alg_certificate_lines.specs.Kept.{kept_number, numbered_symbol, kept_symbol}
 

@@ -3,7 +3,8 @@ use Rattle.std.proofs.Common.{◌≡◌, ℕ, Bool, true, false, ◌&&◌, List,
 use Rattle.alg_terms.specs.declared.symbols.Sym.{Sym}
 use Rattle.alg_terms.specs.Tree.{Tree, Trees, Nil, Cons, Lit as literal, Var as variable, App as node}
 use Rattle.alg_expr.specs.declared.ids.ExprId.{ExprId}
-use Rattle.alg_expr.specs.Arena.{Extends, Extends-self, Extends-then}
+use Rattle.alg_expr.specs.Arena.{Extends}
+use Rattle.alg_expr.proofs.ArenaLaws.{Extends-self, Extends-then}
 use Rattle.alg_expr.specs.Ids.{tree_of, trees_at, IsIn}
 use Rattle.alg_law.specs.Declarations.{Declaration}
 use Rattle.alg_certificate.specs.Tokens.{Tok, Blank, Close, Semi, Open, Word, read_token}

@@ -4,13 +4,15 @@ use Rattle.std.proofs.lemmas.Bool.{and_from}
 use Rattle.alg_terms.specs.declared.sorts.Sort.{Sort}
 use Rattle.alg_terms.specs.declared.sorts.Sort.TheVariants as sort
 use Rattle.alg_terms.specs.declared.symbols.Sym.{Sym}
-use Rattle.alg_terms.specs.Tree.{Tree, Trees, Nil, Cons, Lit as literal, Var as variable, App as node, Statement, sort_of_tree, to_list, of_list, to_list-of_list, of_list-to_list}
-use Rattle.alg_terms.specs.Order.{sort_same, sort_same-equal, sort_same-self}
+use Rattle.alg_terms.specs.Tree.{Tree, Trees, Nil, Cons, Lit as literal, Var as variable, App as node, Statement, sort_of_tree, to_list, of_list}
+use Rattle.alg_terms.proofs.TreeLaws.{to_list-of_list, of_list-to_list}
+use Rattle.alg_terms.specs.Order.{sort_same}
+use Rattle.alg_terms.proofs.OrderLaws.{sort_same-equal, sort_same-self}
 use Rattle.alg_law.specs.declared.marks.Mark.TheVariants.{Good, BadName}
 use Rattle.alg_law.specs.Declarations.{Declaration}
 use Rattle.alg_law.specs.Having.{has_class}
 use Rattle.alg_law.specs.WellSorted.{is_type, variable_of, sort_mark, literal_class, class_mark, of_sort, sorts_of, head_mark, mark_of, marks_of, has_relation, IsStatement}
-use Rattle.alg_law.specs.WellSortedLaws.{worse-good, worse-parts, known-from_good}
+use Rattle.alg_law.proofs.WellSortedLaws.{worse-good, worse-parts, known-from_good}
 use Rattle.alg_proof.specs.declared.lines.ComputeHead.{ComputeHead}
 use Rattle.alg_proof.specs.declared.lines.ComputeHead.TheVariants as head
 use Rattle.alg_proof.specs.Steps.{Step, Refl, Symm, Trans, Cong, Subst, Law, Lemma, Hyp, Rest, LitAdd, LitMul, LitRel, Bridge, Compute, value_sort, name_mark, compute_mark, step_mark}

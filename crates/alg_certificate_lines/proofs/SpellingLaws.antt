@@ -17,7 +17,7 @@ use Rattle.alg_law.specs.declared.classes.Class.TheVariants.{Semiring}
 use Rattle.alg_law.specs.Declarations.{Declaration, Carrier, Instance, Variable, Function, Hypothesis, hypotheses}
 use Rattle.alg_law.specs.Having.{has_class}
 use Rattle.alg_law.specs.WellSorted.{sort_mark, sorts_agree, sorts_same, function_in, function_of, of_function, sorts_of, symbol_mark, head_mark, mark_of, marks_of, IsStatement}
-use Rattle.alg_law.specs.WellSortedLaws.{worse-parts}
+use Rattle.alg_law.proofs.WellSortedLaws.{worse-parts}
 use Rattle.alg_law.specs.Rows.{Row}
 use Rattle.alg_law.specs.Laws.{law_table, row_named}
 use Rattle.alg_law.specs.Derivations.{related}
@@ -25,7 +25,7 @@ use Rattle.alg_proof.specs.declared.lines.BridgeKind.{BridgeKind}
 use Rattle.alg_proof.specs.declared.lines.ComputeHead.TheVariants as head
 use Rattle.alg_proof.specs.Causes.{Concludes, or_cause, only_if, only_good, line_at, join, statements_at, is_small}
 use Rattle.alg_proof.specs.Instances.{instance_of, row_line}
-use Rattle.alg_proof.specs.InstanceLaws.{only_if-ok, only_good-ok, or_cause-ok}
+use Rattle.alg_proof.proofs.InstanceLaws.{only_if-ok, only_good-ok, or_cause-ok}
 use Rattle.alg_proof.specs.LiteralLines.{sum_of, product_of, relation_class, has_literal, relation_holds, relation_of, bridge_class, bridge_from, bridge_to, bridge_of}
 use Rattle.alg_proof.specs.Computations.{numeral_at, numerals_at, has_numerals, is_small_integer, are_small, value_at, sorts_like, value_line, divides_next, first_number, second_number, divides_line}
 use Rattle.alg_proof.specs.Steps.{Theory, Step, Refl, Symm, Trans, Cong, Subst, Law, Lemma, Hyp, Rest, LitAdd, LitMul, LitRel, Bridge, Compute, symm_of, trans_of, subst_of, value_sort, cong_of, step_mark, conclude_named, conclude}

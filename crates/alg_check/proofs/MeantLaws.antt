@@ -5,7 +5,7 @@ use Rattle.alg_terms.specs.Tree.{Statement}
 use Rattle.alg_law.specs.Declarations.{Declaration}
 use Rattle.alg_law.specs.declared.marks.Mark.TheVariants.{Good}
 use Rattle.alg_proof.specs.Causes.{Concludes}
-use Rattle.alg_proof.specs.InstanceLaws.{only_good-ok}
+use Rattle.alg_proof.proofs.InstanceLaws.{only_good-ok}
 use Rattle.alg_proof.specs.Steps.{Theory, Step, step_mark, conclude_named, conclude}
 use Rattle.alg_proof.specs.Valid.{Verdict, Accepted, go_on, verdict_from, IsValid}
 use Rattle.alg_certificate_lines.proofs.ReadBackLaws.{step_back}

@@ -3,7 +3,8 @@ use Rattle.std.proofs.Common.{◌≡◌, ℕ, refl, sym, ap, ◌∙◌, subst, L
 use Rattle.std.proofs.lemmas.List.{reverse-append}
 use Rattle.alg_terms.specs.declared.sorts.Sort.{Sort}
 use Rattle.alg_terms.specs.Tree as terms
-use Rattle.alg_expr.specs.Arena.{Extends, Extends-self}
+use Rattle.alg_expr.specs.Arena.{Extends}
+use Rattle.alg_expr.proofs.ArenaLaws.{Extends-self}
 use Rattle.alg_law.specs.declared.combo.ComboStep.{ComboStep}
 use Rattle.alg_law.specs.declared.combo.ComboStep.TheVariants as step
 use Rattle.alg_syntax.specs.declared.signs.Operator.{Operator}

@@ -1,7 +1,8 @@
 -- What a combination says stays as it is where the arena grows.
 use Rattle.std.proofs.Common.{◌∙◌, List}
 use Rattle.alg_terms.specs.Tree.{Tree}
-use Rattle.alg_expr.specs.Arena.{Extends, IsIn-extends, tree_of-extends}
+use Rattle.alg_expr.specs.Arena.{Extends}
+use Rattle.alg_expr.proofs.ArenaLaws.{IsIn-extends, tree_of-extends}
 use Rattle.alg_law.specs.declared.combo.Combo.{Combo}
 use Rattle.alg_law.specs.declared.combo.ComboStep.{ComboStep}
 use Rattle.alg_combinations.specs.Combined.{Combination, hypothesis, expression, negative, sum, difference, product, quotient, Spells, Says}

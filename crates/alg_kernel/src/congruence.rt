@@ -15,6 +15,7 @@ use crate::rules::{build, earlier, equation, is_equation};
 use alg_expr::{Arena, ExprId, Memory, Place, Sort, Stmt, Sym};
 use alg_law::{Base, Mark, mark_for_head};
 use alg_terms::BadCause;
+use smallvec::SmallVec;
 
 /// A bad name where a declared function isn't there.
 pub(crate) fn name_of(base: &Base, sym: Sym) -> Mark
@@ -51,7 +52,7 @@ pub(crate) fn cong(base: &Base, arena: &mut Arena, sym: Sym, parts: &[Stmt]) -> 
 {
     let lefts = lefts_of(arena, parts)?;
     let rights = rights_of(arena, parts)?;
-    over_sides(base, arena, sym, parts, &lefts, &rights)
+    over_sides(base, arena, sym, parts, lefts.as_slice(), rights.as_slice())
 }
 
 // the same, with the ids of both sides of the premises
@@ -105,20 +106,20 @@ fn both(
     Ok(equation(arena, lhs, rhs))
 }
 
-fn lefts_of(arena: &Arena, parts: &[Stmt]) -> Result<Vec<ExprId>, Memory>
+fn lefts_of(arena: &Arena, parts: &[Stmt]) -> Result<SmallVec<ExprId, 4>, Memory>
     ensures { IfOk result (λ v. v.items ≡ left_ids parts.now) }
 {
-    let mut ids: Vec<ExprId> = Vec::with_capacity(arena.alloc(), parts.len())?;
+    let mut ids: SmallVec<ExprId, 4> = SmallVec::with_capacity(arena.alloc(), parts.len())?;
     for part in parts {
         ids.push(part.lhs)?;
     }
     Ok(ids)
 }
 
-fn rights_of(arena: &Arena, parts: &[Stmt]) -> Result<Vec<ExprId>, Memory>
+fn rights_of(arena: &Arena, parts: &[Stmt]) -> Result<SmallVec<ExprId, 4>, Memory>
     ensures { IfOk result (λ v. v.items ≡ right_ids parts.now) }
 {
-    let mut ids: Vec<ExprId> = Vec::with_capacity(arena.alloc(), parts.len())?;
+    let mut ids: SmallVec<ExprId, 4> = SmallVec::with_capacity(arena.alloc(), parts.len())?;
     for part in parts {
         ids.push(part.rhs)?;
     }

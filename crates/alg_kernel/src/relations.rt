@@ -8,10 +8,9 @@ ghost use Rattle.alg_proof.specs.LiteralLines.{relation_class, has_literal, rela
 ghost use Rattle.alg_kernel.specs.Answers.{IsJudged};
 
 use crate::answers::Fault;
-use crate::rules::LIMIT;
 use alg_expr::{Arena, Memory, Rel, Sort, Stmt};
 use alg_law::{Base, Class, has};
-use alg_terms::BadCause;
+use alg_terms::{BadCause, GREATEST_LITERAL};
 
 /// `m ≠ n`, `m < n` or `m ≤ n` for two literals, where it holds.
 pub(crate) fn relation(
@@ -31,7 +30,7 @@ pub(crate) fn relation(
     {
         return Err(Fault::Bad(BadCause::NoInstance));
     }
-    if m > LIMIT || n > LIMIT || !holds(rel, m, n) {
+    if m > GREATEST_LITERAL || n > GREATEST_LITERAL || !holds(rel, m, n) {
         return Err(Fault::Bad(BadCause::Literal));
     }
     Ok(related(arena, rel, sort, m, n)?)

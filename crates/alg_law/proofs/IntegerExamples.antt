@@ -14,7 +14,7 @@ use Rattle.alg_law.specs.Having.{has_class}
 use Rattle.alg_law.specs.IntegerBases.{IsIntegerBase}
 use Rattle.alg_num.specs.Reduced.{divisor_by_steps, greatest_divisor}
 use Rattle.alg_law.specs.IntegerValues.{symbol_value}
-use Rattle.alg_law.specs.NoFalseLaw.{derivable-true}
+use Rattle.alg_law.proofs.NoFalseLaw.{derivable-true}
 use Rattle.alg_law.specs.Valuations.{Valuation, IsResult, IsValuation}
 use Rattle.alg_law.specs.WellSorted.{function_of}
 

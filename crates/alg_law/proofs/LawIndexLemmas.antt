@@ -12,7 +12,8 @@ use Rattle.alg_law.specs.LawIndexing.{indexed, Indexes, AreLater, IsOneLater}
 use Rattle.alg_law.specs.LawRows.{row_of}
 use Rattle.alg_law.specs.Laws.{law_groups, law_table, rows_in, row_named}
 use Rattle.alg_law.specs.Rows.{Row}
-use Rattle.alg_law.specs.RowNames.{first_some, row_named-append}
+use Rattle.alg_law.specs.RowNames.{first_some}
+use Rattle.alg_law.proofs.RowNameLaws.{row_named-append}
 use Rattle.alg_law.proofs.NamedLemmas.{row_named-at}
 
 first_some-none : (o : Option Row) → o ≡ first_some o None

@@ -4,3 +4,4 @@ mod Filled
 mod Following
 mod Adding
 pub mod Named
+pub mod LemmaNames

@@ -2,10 +2,10 @@
 use Rattle.std.specs.Prelude.{◌≡◌, List, Some, codes, refl}
 use Rattle.alg_law.specs.Rows.{Row}
 use Rattle.alg_law.specs.Laws.{row_named}
-use Rattle.alg_proof.specs.InstanceLaws.{row_named-contains}
+use Rattle.alg_proof.proofs.InstanceLaws.{row_named-contains}
 use Rattle.alg_lemma.specs.Lemmas.{lemma_groups, lemma_table}
 use Rattle.alg_lemma.specs.Library.{HoldsLibrary}
-use Rattle.alg_lemma.specs.LemmaNames.{lemma_named-own}
+use Rattle.alg_lemma.proofs.LemmaNames.{lemma_named-own}
 use Rattle.alg_lemma.specs.FirstLemmas.{first_lemmas, add_left_comm, mul_left_comm, add_neg_cancel, mul_inv_cancel, inv_inv, mul_inv_rev, neg_mul, add_pos}
 use Rattle.alg_lemma.specs.RearrangingLemmas.{rearranging_lemmas, add_right_comm, add_add_add_comm, mul_right_comm, mul_mul_mul_comm, add_neg_cancel_left, add_add_neg_cancel, pow_mul_of, pow_pow_of}
 use Rattle.alg_lemma.specs.NegationLemmas.{negation_lemmas, eq_neg_of_add, neg_neg, neg_zero, neg_add_neg, neg_add_neg_lit, add_neg_pos, add_neg_neg}

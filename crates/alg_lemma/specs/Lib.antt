@@ -33,4 +33,3 @@ pub mod ExponentLemmas
 pub mod IntegerPowerLemmas
 pub mod Lemmas
 pub mod Library
-pub mod LemmaNames

@@ -8,7 +8,7 @@ use Rattle.alg_expr.specs.declared.ids.ExprId.{ExprId}
 use Rattle.alg_expr.specs.declared.memory.Memory.{Memory}
 use Rattle.alg_expr.specs.Ids.{tree_of, trees_at, IsIn}
 use Rattle.alg_expr.specs.Applying.{sorts_at, sorts_fit}
-use Rattle.alg_expr.specs.Arena.{IsIn-extends, tree_of-extends}
+use Rattle.alg_expr.proofs.ArenaLaws.{IsIn-extends, tree_of-extends}
 use Rattle.alg_build.specs.Book.{Book, Grows, Makes}
 use Rattle.alg_build.proofs.Lines.{grows-self, grows-same, keeps-grows, grows-then}
 use Rattle.alg_normnum.specs.Goals.{IsNumeral, literal, sum, product}

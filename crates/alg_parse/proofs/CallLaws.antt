@@ -5,7 +5,8 @@ use Rattle.std.specs.Prelude.{unwrap_or}
 use Rattle.std.specs.Str.{bytes_eq}
 use Rattle.alg_terms.specs.declared.sorts.Sort.{Sort}
 use Rattle.alg_terms.specs.Tree.{Tree}
-use Rattle.alg_expr.specs.Arena.{Extends, Extends-then}
+use Rattle.alg_expr.specs.Arena.{Extends}
+use Rattle.alg_expr.proofs.ArenaLaws.{Extends-then}
 use Rattle.alg_law.specs.declared.combo.Combo.{Combo}
 use Rattle.alg_syntax.specs.Signs.{found_in}
 use Rattle.alg_syntax.specs.Expressions as written

@@ -8,7 +8,8 @@ use Rattle.alg_terms.specs.declared.relations.Rel.{Rel}
 use Rattle.alg_terms.specs.Tree as terms
 use Rattle.alg_terms.specs.Tree.{Tree}
 use Rattle.alg_expr.specs.Ids.{statement_of, IsStatementIn}
-use Rattle.alg_expr.specs.Arena.{Extends, IsIn-extends, statement_of-extends}
+use Rattle.alg_expr.specs.Arena.{Extends}
+use Rattle.alg_expr.proofs.ArenaLaws.{IsIn-extends, statement_of-extends}
 use Rattle.alg_law.specs.declared.declarations.Declared.{Declared}
 use Rattle.alg_law.specs.Declarations.{Declaration, declarations_of, IsDeclaredIn}
 use Rattle.alg_law.specs.Following.{AllMayFollow, IsWellFormed}

@@ -5,7 +5,8 @@ use Rattle.std.proofs.lemmas.Bool.{and_parts, and_from}
 use Rattle.std.proofs.lemmas.Bool.Decides.{nat_tests}
 use Rattle.alg_terms.specs.declared.sorts.Sort.{Sort}
 use Rattle.alg_terms.specs.Tree.{Tree, Statement, of_list, sort_of_tree}
-use Rattle.alg_terms.specs.Order.{tree_same-self, sort_same, sort_same-self, rel_same-self}
+use Rattle.alg_terms.proofs.OrderLaws.{tree_same-self, sort_same-self, rel_same-self}
+use Rattle.alg_terms.specs.Order.{sort_same}
 use Rattle.alg_law.specs.declared.rows.Need.{Need}
 use Rattle.alg_law.specs.declared.rows.Need.TheVariants as need
 use Rattle.alg_law.specs.declared.marks.Mark.TheVariants.{Good}

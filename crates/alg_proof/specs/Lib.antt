@@ -11,13 +11,4 @@ pub mod Lines
 pub mod Places
 pub mod Citing
 pub mod Valid
-pub mod LiteralSums
-pub mod PatternSorts
-pub mod PatternLaws
-pub mod LawSorts
-pub mod Extending
-pub mod Derived
-pub mod LiteralOrder
-pub mod InstanceLaws
-pub mod ComputationLaws
 pub mod Admissible

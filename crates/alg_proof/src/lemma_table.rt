@@ -1,20 +1,24 @@
 ghost use Rattle.std.specs.Prelude.{◌≡◌, [], ◌∷◌, ◌++◌, length, map, All, None, IfOk, OnOk, OnErr, option_map};
-ghost use Rattle.alg_law.specs.Laws.{row_named};
+ghost use Rattle.alg_law.specs.LawRows.{row_of};
+ghost use Rattle.alg_law.specs.Laws.{law_table, row_named};
 ghost use Rattle.alg_proof.specs.LemmaRows.{lemma_row_of, rows_of};
 ghost use Rattle.alg_proof.specs.Following.{IsAdmissible};
 
 use crate::lemma_rows::LemmaRow;
 use crate::row_names::RowName;
 use alg_expr::Memory;
+use alg_law::{Law, LawIndex};
 use indexmap::IndexMap;
 use std::alloc::Global;
 use std::marker::Model;
 
-/// A table of lemmas, each of which follows from the laws. It only grows. Contracts see the list of its rows.
+/// A table of lemmas, each of which follows from the laws. It only grows. Contracts see the list of its rows. Beside them
+/// it finds the laws.
 #[derive(Drop)]
 pub struct Lemmas {
     // each under its name, in the order in which they came
     rows: IndexMap<&'static str, &'static LemmaRow>,
+    laws: LawIndex,
 }
 
 impl Model for Lemmas {
@@ -37,6 +41,7 @@ impl Lemmas {
     {
         Ok(Lemmas {
             rows: IndexMap::new(alloc),
+            laws: LawIndex::new(alloc)?,
         })
     }
 
@@ -59,6 +64,13 @@ impl Lemmas {
             Some(row) => Some(*row),
             None => None,
         }
+    }
+
+    /// The law with this name.
+    pub fn law(&self, name: &RowName) -> Option<&'static Law>
+        ensures row { option_map (λ l. row_of l.now) result ≡ row_named law_table name.now }
+    {
+        self.laws.get(name.as_str())
     }
 
     /// How many lemmas there are. Each follows from the laws.

@@ -15,7 +15,7 @@ use Rattle.alg_law.specs.Declarations.{Declaration}
 use Rattle.alg_law.specs.Following.{IsKnown}
 use Rattle.alg_law.specs.Having.{has_class}
 use Rattle.alg_law.specs.WellSorted.{sort_mark, literal_class, class_mark, same_mark, of_sort as of_sort_mark, variable_of, function_of, of_function, sorts_same, sorts_agree, symbol_mark, has_classes, mark_of, marks_of, IsWellSorted}
-use Rattle.alg_law.specs.WellSortedLaws.{worse-good}
+use Rattle.alg_law.proofs.WellSortedLaws.{worse-good}
 use Rattle.alg_syntax.specs.declared.signs.Operator.TheVariants.{Add, Sub, Mul, Div, Mod, Smul, Pow}
 use Rattle.alg_names.specs.declared.meanings.Meaning.{Meaning}
 use Rattle.alg_names.specs.declared.meanings.Meaning.TheVariants.{SortName, Variable, Function, Shared, Hypothesis}

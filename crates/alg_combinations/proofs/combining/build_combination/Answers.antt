@@ -1,5 +1,5 @@
 use Rattle.std.proofs.Common.{◌∷◌, [], ◌++◌, ◌∙◌, ap}
-use Rattle.alg_expr.specs.Arena.{Extends-then}
+use Rattle.alg_expr.proofs.ArenaLaws.{Extends-then}
 use Rattle.alg_syntax.specs.Nodes.{tree_at}
 use Rattle.alg_elaborate.specs.Raw.{meant}
 use Rattle.alg_combinations.specs.Combining.{leaf_of}
