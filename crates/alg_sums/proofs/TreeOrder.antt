@@ -4,7 +4,8 @@ use Rattle.std.specs.Ordering.{nat_cmp, ordering_then, ordering_reverse}
 use Rattle.std.specs.Cmp.{nat_cmp_total, alike_right, then_flip}
 use Rattle.alg_terms.specs.Keys.{sort_key, sym_key}
 use Rattle.alg_terms.specs.Tree.{Tree, Lit, Var, App, Trees, Nil, Cons}
-use Rattle.alg_terms.specs.Order.{tree_cmp, trees_cmp, sort_cmp, sym_cmp, tree_cmp-equal, trees_cmp-equal}
+use Rattle.alg_terms.specs.Order.{tree_cmp, trees_cmp, sort_cmp, sym_cmp}
+use Rattle.alg_terms.proofs.OrderLaws.{tree_cmp-equal, trees_cmp-equal}
 use Rattle.alg_sums.specs.Sum.{IsStrict}
 
 turn_numbers : (m n : ℕ) → nat_cmp m n ≡ ordering_reverse (nat_cmp n m)
