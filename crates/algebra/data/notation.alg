@@ -34,20 +34,3 @@ example : f a b = 0 := by simp
 example : (x + y = y + x := by ring
 
 example : 1 = 1 := by norm_num
-
-example : 1 = 1 := by simp
-
-example (h : a = b) : a = b := by linear_combination h * h
-
-example : 1 = 1 # := by norm_num
-
-example : 1 = 170141183460469231731687303715884105728 := by norm_num
-
-example : 170141183460469231731687303715884105727 + 1 = 1 := by norm_num
-
-example : 3 * 5 = 1 + 14 := by norm_num
-
--- 257 open parentheses.
-example : (((((((((((((((((((((((((((((((((((((((((((((((((((((((((((((((((((((((((((((((((((((((((((((((((((((((((((((((((((((((((((((((((((((((((((((((((((((((((((((((((((((((((((((((((((((((((((((((((((((((((((((((((((((((((((((((((((((((((((((((((((((((((((((((((1 = 1 := by norm_num
-
-example : 1 + /- open

@@ -5,7 +5,7 @@ use alg_cli::{Extensions, Host, RealHost, run};
 use std::alloc::{AllocError, Global};
 use std::process::ExitCode;
 
-const RUNS: [&'static str; 14] = [
+const RUNS: [&'static str; 15] = [
     "algebra prove notation.alg --cert written.cert",
     "algebra check notation.alg written.cert",
     "algebra check notation.alg notation.cert",
@@ -14,6 +14,7 @@ const RUNS: [&'static str; 14] = [
     "algebra check first.alg unended.cert",
     "algebra check first.alg first.alg",
     "algebra prove notation_rows.alg",
+    "algebra prove faults.alg",
     "algebra prove first.alg",
     "algebra prove empty.alg --cert written.cert",
     "algebra check empty.alg written.cert",
@@ -22,18 +23,21 @@ const RUNS: [&'static str; 14] = [
     "algebra demo 1",
 ];
 
+/// The status where memory runs out before a run.
+const OUT_OF_MEMORY: u8 = 4;
+
 fn main(rt: HostRuntime) -> ExitCode {
     let alloc = rt.alloc();
     let mut host = RealHost::new(rt);
     for line in RUNS {
         if run_line(alloc, line, &mut host).is_err() {
-            return ExitCode::FAILURE;
+            return ExitCode::from(OUT_OF_MEMORY);
         }
     }
-    ExitCode::SUCCESS
+    ExitCode::from(0)
 }
 
-// One run, on the words of the line.
+// The run of the words of a line.
 fn run_line(alloc: Global, line: &str, host: &mut RealHost) -> Result<(), AllocError> {
     let mut words = Vec::new(alloc);
     for word in line.split(' ') {
