@@ -72,6 +72,7 @@ fn check(
         lines,
         given: _,
     } = cx.into_parts();
+    // the clauses of `len` keep the numbers of hypotheses and lines within those of a certificate
     let _declarations = base.len();
     let _lines = lines.len();
     let entry = entry_for(alloc, number, &arena, &lines)?;
