@@ -10,3 +10,4 @@ pub mod Written
 pub mod Following
 pub mod Checking
 pub mod Certified
+pub mod Faults

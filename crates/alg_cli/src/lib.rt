@@ -3,7 +3,6 @@
 
 mod checking;
 mod entries;
-mod process;
 mod program;
 mod proofs;
 mod proving;
@@ -11,7 +10,6 @@ mod status;
 mod work;
 
 pub use alg_host::{Failed, Host, LoadFault, MemoryHost, RealHost};
-pub use process::run_process;
 pub use program::{Extensions, run};
 pub use status::Status;
 
