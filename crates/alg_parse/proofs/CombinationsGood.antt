@@ -2,7 +2,7 @@
 use Rattle.std.proofs.Common.{◌≡◌, Bool, true, false, not, ◌&&◌, List, [], ◌∷◌, ◌++◌, All, Option, Some, None, refl, ap, sym, ◌∙◌, subst}
 use Rattle.std.proofs.lemmas.Bool.{and_parts}
 use Rattle.std.proofs.lemmas.List.Elements.{All-nil, All-cons, All-append}
-use Rattle.std.specs.Option.{IsSome}
+use Rattle.std.specs.Option.{IsSome, is_some}
 use Rattle.alg_terms.specs.declared.sorts.Sort.{Sort}
 use Rattle.alg_terms.specs.declared.sorts.Sort.TheVariants.{Nat, Int, Rat, Decl}
 use Rattle.alg_terms.specs.declared.relations.Rel.{Rel}
@@ -105,6 +105,9 @@ name-pushed ds k (Some (Hypothesis n r l)) h known e =
       pushes = λ ps. (((h.0).lhs, (h.0).rhs), ap (λ o. sides o ps) h.1);
     }
 
+some_there : (o : Option (Tree × Tree)) (p : Tree × Tree) → o ≡ Some p → IsSome o
+some_there o p e = ap is_some e
+
 module _ (s : Scope) (ds : List Declaration) (g : Agrees s ds) where
   leaf-pushed : (k : Sort) (t : Raw) → IsKnown ds k → is_proof s t ≡ false → faults s true k t ≡ [] → IsPushed ds k (expression (typed s k t) ∷ [])
   leaf-pushed k t known h e = tree-pushed ds k (typed s k t) (typed-good s ds g k t known (faults-unused s k t h e))
@@ -157,4 +160,4 @@ module _ (s : Scope) (ds : List Declaration) (g : Agrees s ds) where
   combined-good k t known e =
       let h = combined-pushed k t known e in
       let p = h.pushes [] in
-      record { parts = h.parts; pair = subst (λ o. IsSome (only o)) (sym p.1) tt }
+      record { parts = h.parts; pair = some_there (pair_of ds k (combined s k t)) p.0 (ap only p.1) }

@@ -1,5 +1,5 @@
 -- What goals are told to do fits their bases.
-use Rattle.std.proofs.Common.{◌≡◌, ℕ, ◌≤◌, List, [], ◌∷◌, ◌++◌, length, take, All, Option, Some, None, Result, Ok, Err, refl, sym, ap, ◌∙◌, subst, arith, length-append, append-nil, append_assoc}
+use Rattle.std.proofs.Common.{◌≡◌, ℕ, ◌≤◌, List, [], ◌∷◌, ◌++◌, length, take, All, Bool, true, false, Option, Some, None, Result, Ok, Err, refl, sym, ap, ◌∙◌, subst, arith, length-append, append-nil, append_assoc}
 use Rattle.std.proofs.lemmas.List.{take_all, take-append-le}
 use Rattle.std.proofs.lemmas.List.Elements.{All-nil, All-cons, All-append}
 use Rattle.alg_terms.specs.declared.sorts.Sort.{Sort}
@@ -57,8 +57,9 @@ module _ (s : Scope) (ds : List Declaration) (g : Agrees s ds) (k : Sort) (known
       let p = append_parts (step_faults s k c.first) (further_faults s k c.further) h in
       All-append (CallFits ds k) (calls_at s k c.first) (further_calls s k c.further) (step-fits c.first p.0) (further-fit c.further p.1)
 
-sort_ordered : (b : _) (r : Rel) (l : Sort) (x y : terms.Tree) → (ordered b r l x y).sort ≡ l
-sort_ordered b r l x y = search rules
+sort_ordered : (b : Bool) (r : Rel) (l : Sort) (x y : terms.Tree) → (ordered b r l x y).sort ≡ l
+sort_ordered true r l x y = refl
+sort_ordered false r l x y = refl
 
 -- a goal without a fault
 goal-fits : (k : Known) (label : List ℕ) (line : ℕ) (g : Goal) → IsWellFormed k.shared → goal_faults (in_force k) g ≡ [] → ToldFits k.shared (goal_told k label line g)
