@@ -2,7 +2,8 @@
 use Rattle.std.specs.Prelude.{◌≡◌, true, Some, Contains, refl}
 use Rattle.alg_law.specs.Rows.{Row}
 use Rattle.alg_law.specs.Laws.{row_named}
-use Rattle.alg_law.specs.RowNames.{are_apart, own}
+use Rattle.alg_law.specs.RowNames.{are_apart}
+use Rattle.alg_law.proofs.RowNameLaws.{own}
 use Rattle.alg_lemma.specs.FirstLemmas.{first_lemmas}
 use Rattle.alg_lemma.specs.RearrangingLemmas.{rearranging_lemmas}
 use Rattle.alg_lemma.specs.NegationLemmas.{negation_lemmas}

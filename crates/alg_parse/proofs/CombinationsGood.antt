@@ -1,21 +1,18 @@
 -- A combination without a fault comes to two trees, and its parts are good.
-use Rattle.std.proofs.Common.{◌≡◌, Bool, true, false, not, ◌&&◌, List, [], ◌∷◌, ◌++◌, All, Option, Some, None, refl, ap, sym, ◌∙◌, subst}
+use Rattle.std.proofs.Common.{◌≡◌, Bool, true, false, ◌&&◌, List, [], ◌∷◌, ◌++◌, All, Option, Some, None, refl, ap, sym, ◌∙◌, subst}
 use Rattle.std.proofs.lemmas.Bool.{and_parts}
 use Rattle.std.proofs.lemmas.List.Elements.{All-nil, All-cons, All-append}
-use Rattle.std.specs.Option.{IsSome}
+use Rattle.std.specs.Option.{IsSome, is_some}
 use Rattle.alg_terms.specs.declared.sorts.Sort.{Sort}
 use Rattle.alg_terms.specs.declared.sorts.Sort.TheVariants.{Nat, Int, Rat, Decl}
-use Rattle.alg_terms.specs.declared.relations.Rel.{Rel}
 use Rattle.alg_terms.specs.declared.relations.Rel.TheVariants.{Eq}
-use Rattle.alg_terms.specs.declared.symbols.Sym.{Sym}
 use Rattle.alg_terms.specs.declared.symbols.Sym.TheVariants as symbol
 use Rattle.alg_terms.specs.Tree.{Tree, Statement}
 use Rattle.alg_terms.specs.Order.{rel_same, sort_same}
 use Rattle.alg_terms.proofs.OrderLaws.{rel_same-equal, sort_same-equal}
-use Rattle.alg_law.specs.Combinations.{Part, expression, negative, sum, difference, product, quotient, difference_of, quotient_of, acted, joined, sides, after, after_some, after_all, only, pair_of, Supports, IsPart, IsCombination}
+use Rattle.alg_law.specs.Combinations.{Part, expression, negative, sum, difference, product, quotient, difference_of, quotient_of, sides, after, after_some, after_all, only, pair_of, Supports, IsPart, IsCombination}
 use Rattle.alg_law.specs.Declarations.{Declaration, hypotheses}
 use Rattle.alg_law.specs.Following.{IsKnown}
-use Rattle.alg_syntax.specs.declared.signs.Operator.{Operator}
 use Rattle.alg_syntax.specs.declared.signs.Operator.TheVariants.{Add, Sub, Mul, Div, Mod, Smul, Pow}
 use Rattle.alg_names.specs.declared.meanings.Meaning.{Meaning}
 use Rattle.alg_names.specs.declared.meanings.Meaning.TheVariants.{SortName, Variable, Function, Shared, Hypothesis}
@@ -27,7 +24,7 @@ use Rattle.alg_elaborate.specs.Operations.{difference_symbol, quotient_symbol}
 use Rattle.alg_elaborate.specs.Combinations.{is_proof, combines}
 use Rattle.alg_elaborate.specs.Faults.{lacks, name_faults, miscombines, faults}
 use Rattle.alg_elaborate.specs.TypedTrees.{typed_name, typed}
-use Rattle.alg_combinations.specs.Combined.{joint, named_part, where_proof, combined}
+use Rattle.alg_combinations.specs.Combined.{named_part, where_proof, combined}
 use Rattle.alg_well_sorted.specs.Agreeing.{IsMeant, Agrees}
 use Rattle.alg_well_sorted.specs.Parts.{append_parts, when_none, lacks_none}
 use Rattle.alg_well_sorted.specs.Compounds.{IsOfSort}
@@ -70,14 +67,13 @@ joined-pushed ds k x xs ys f j h i =
           let hs = hypotheses ds in
           let p = h.pushes ps in
           let q = i.pushes (p.0 ∷ ps) in
-          let r = j q.0 p.0 ps in
-          (
+          let r = j q.0 p.0 ps in (
             r.0,
             after_all-append hs k xs (ys ++ x ∷ []) (Some ps)
-            ∙ ap (λ o. after_all hs k (ys ++ x ∷ []) o) p.1
-            ∙ after_all-append hs k ys (x ∷ []) (Some (p.0 ∷ ps))
-            ∙ ap (λ o. after_all hs k (x ∷ []) o) q.1
-            ∙ r.1,
+                ∙ ap (λ o. after_all hs k (ys ++ x ∷ []) o) p.1
+                ∙ after_all-append hs k ys (x ∷ []) (Some (p.0 ∷ ps))
+                ∙ ap (λ o. after_all hs k (x ∷ []) o) q.1
+                ∙ r.1,
           );
     }
 
@@ -105,6 +101,9 @@ name-pushed ds k (Some (Hypothesis n r l)) h known e =
       parts = one_part ds k _ (h.0, h.1, h.2 ∙ rel_same-equal r Eq b.0, h.3 ∙ sym (sort_same-equal k l b.1));
       pushes = λ ps. (((h.0).lhs, (h.0).rhs), ap (λ o. sides o ps) h.1);
     }
+
+some_there : (o : Option (Tree × Tree)) (p : Tree × Tree) → o ≡ Some p → IsSome o
+some_there o p e = ap is_some e
 
 module _ (s : Scope) (ds : List Declaration) (g : Agrees s ds) where
   leaf-pushed : (k : Sort) (t : Raw) → IsKnown ds k → is_proof s t ≡ false → faults s true k t ≡ [] → IsPushed ds k (expression (typed s k t) ∷ [])
@@ -158,4 +157,4 @@ module _ (s : Scope) (ds : List Declaration) (g : Agrees s ds) where
   combined-good k t known e =
       let h = combined-pushed k t known e in
       let p = h.pushes [] in
-      record { parts = h.parts; pair = subst (λ o. IsSome (only o)) (sym p.1) tt }
+      record { parts = h.parts; pair = some_there (pair_of ds k (combined s k t)) p.0 (ap only p.1) }

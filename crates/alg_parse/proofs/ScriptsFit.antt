@@ -1,5 +1,5 @@
 -- What goals are told to do fits their bases.
-use Rattle.std.proofs.Common.{◌≡◌, ℕ, ◌≤◌, List, [], ◌∷◌, ◌++◌, length, take, All, Option, Some, None, Result, Ok, Err, refl, sym, ap, ◌∙◌, subst, arith, length-append, append-nil, append_assoc}
+use Rattle.std.proofs.Common.{◌≡◌, ℕ, ◌≤◌, List, [], ◌∷◌, ◌++◌, length, All, Bool, true, false, Option, Some, None, Result, Ok, Err, refl, sym, ap, ◌∙◌, subst, arith, length-append, append-nil, append_assoc}
 use Rattle.std.proofs.lemmas.List.{take_all, take-append-le}
 use Rattle.std.proofs.lemmas.List.Elements.{All-nil, All-cons, All-append}
 use Rattle.alg_terms.specs.declared.sorts.Sort.{Sort}
@@ -27,11 +27,11 @@ use Rattle.alg_binders.specs.declared.procedures.Procedure.{Procedure as NamedPr
 use Rattle.alg_binders.specs.Binders.{is_among, binders_faults, declared_by_all}
 use Rattle.alg_binders.specs.Procedures.{procedure_named}
 use Rattle.alg_binders.specs.CommandFaults.{step_faults, further_faults, script_faults, proof_faults, goal_faults, command_faults, declared_after}
-use Rattle.alg_well_sorted.specs.Agreeing.{Agrees, Follows}
+use Rattle.alg_well_sorted.specs.Agreeing.{Agrees}
 use Rattle.alg_well_sorted.specs.Parts.{append_parts}
 use Rattle.alg_well_sorted.specs.EnteringLaws.{entered-follows, all_follow-joined}
 use Rattle.alg_well_sorted.specs.StatementsGood.{statement_sort-known}
-use Rattle.alg_parse.specs.Told.{Told, declares, goal, faulty, Call, plain, combination, calls_named, calls_at, further_calls, calls_of, unnamed}
+use Rattle.alg_parse.specs.Told.{Told, declares, goal, faulty, plain, calls_named, calls_at, further_calls, calls_of, unnamed}
 use Rattle.alg_parse.specs.Files.{Known, in_force, goal_told, command_told, told_where, told_of, known_where, known_after, fault_in, Tell, none, more}
 use Rattle.alg_parse.specs.Fitting.{CallFits, ToldFits}
 use Rattle.alg_parse.proofs.CombinationsGood.{combined-good}
@@ -57,8 +57,9 @@ module _ (s : Scope) (ds : List Declaration) (g : Agrees s ds) (k : Sort) (known
       let p = append_parts (step_faults s k c.first) (further_faults s k c.further) h in
       All-append (CallFits ds k) (calls_at s k c.first) (further_calls s k c.further) (step-fits c.first p.0) (further-fit c.further p.1)
 
-sort_ordered : (b : _) (r : Rel) (l : Sort) (x y : terms.Tree) → (ordered b r l x y).sort ≡ l
-sort_ordered b r l x y = search rules
+sort_ordered : (b : Bool) (r : Rel) (l : Sort) (x y : terms.Tree) → (ordered b r l x y).sort ≡ l
+sort_ordered true r l x y = refl
+sort_ordered false r l x y = refl
 
 -- a goal without a fault
 goal-fits : (k : Known) (label : List ℕ) (line : ℕ) (g : Goal) → IsWellFormed k.shared → goal_faults (in_force k) g ≡ [] → ToldFits k.shared (goal_told k label line g)
@@ -72,9 +73,11 @@ goal-fits k label line g h e =
     let a = (entered-follows (in_force k) k.shared bs (known-follows k h) (binders_fit k g.binders h p.0)).agrees in
     let within : length k.shared ≤ length k.shared = omega arith in
     let fit : All (CallFits ds l) (calls_of t l g.script) = script-fits t ds a l (statement_sort-known t ds a g.statement) g.script q.1 in
-    let same : (typed_statement t g.statement).sort ≡ l = sort_ordered (exchanges g.statement.relation) (relation_of g.statement.relation) l _ _ in
-    (within, subst (λ xs. All (CallFits (xs ++ bs) (typed_statement t g.statement).sort) (calls_of t l g.script)) (sym (take_all (length k.shared) k.shared within))
-        (subst (λ j. All (CallFits ds j) (calls_of t l g.script)) (sym same) fit))
+    let same : (typed_statement t g.statement).sort ≡ l = sort_ordered (exchanges g.statement.relation) (relation_of g.statement.relation) l _ _ in (
+      within,
+      subst (λ xs. All (CallFits (xs ++ bs) (typed_statement t g.statement).sort) (calls_of t l g.script)) (sym (take_all (length k.shared) k.shared within))
+          (subst (λ j. All (CallFits ds j) (calls_of t l g.script)) (sym same) fit),
+    )
 
 command-fits : (k : Known) (line : ℕ) (c : Command) → IsWellFormed k.shared → command_faults (in_force k) k.used c ≡ [] → ToldFits k.shared (command_told k line c)
 command-fits k line (Import n) h e = tt

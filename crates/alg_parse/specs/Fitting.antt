@@ -1,5 +1,5 @@
 -- What the script of a goal is over the goal's base.
-use Rattle.std.specs.Prelude.{ℕ, ◌≤◌, List, ◌++◌, length, take, All, ⊤}
+use Rattle.std.specs.Prelude.{◌≤◌, List, ◌++◌, length, take, All, ⊤}
 use Rattle.alg_terms.specs.declared.sorts.Sort.{Sort}
 use Rattle.alg_law.specs.Combinations.{IsCombination}
 use Rattle.alg_law.specs.Declarations.{Declaration}
