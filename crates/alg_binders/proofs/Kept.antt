@@ -4,7 +4,8 @@ use Rattle.std.specs.Prelude.{All}
 use Rattle.std.proofs.lemmas.List.{map-append}
 use Rattle.std.proofs.lemmas.List.Elements.{All-head, All-tail, All-append}
 use Rattle.alg_terms.specs.Tree.{Tree}
-use Rattle.alg_expr.specs.Arena.{Extends, IsIn-extends, statement_of-extends}
+use Rattle.alg_expr.specs.Arena.{Extends}
+use Rattle.alg_expr.proofs.ArenaLaws.{IsIn-extends, statement_of-extends}
 use Rattle.alg_law.specs.declared.declarations.Declared.{Declared}
 use Rattle.alg_law.specs.declared.declarations.Declared.TheVariants as declared
 use Rattle.alg_law.specs.Declarations.{Declaration, Hypothesis, declaration_of, declarations_of, IsDeclaredIn}

@@ -1,5 +1,5 @@
 -- The faults of a command that is read, and what it declares.
-use Rattle.std.specs.Prelude.{◌≡◌, ℕ, List, [], ◌∷◌, ◌++◌, Bool, true, false, not, codes}
+use Rattle.std.specs.Prelude.{◌≡◌, ℕ, List, [], ◌∷◌, ◌++◌, true, false, not, is_some}
 use Rattle.alg_terms.specs.declared.sorts.Sort.{Sort}
 use Rattle.alg_law.specs.Declarations.{Declaration}
 use Rattle.alg_syntax.specs.declared.scripts.Step.{Step}
@@ -17,15 +17,12 @@ use Rattle.alg_elaborate.specs.Raw.{meant}
 use Rattle.alg_elaborate.specs.Faults.{when, faults}
 use Rattle.alg_elaborate.specs.Statements.{statement_sort, statement_faults}
 use Rattle.alg_binders.specs.Binders.{is_among, binders_faults, declared_by_all}
-
--- the procedures' names
-abbrev pub procedures : List (List ℕ)
-procedures = codes "norm_num" ∷ codes "ring" ∷ codes "ring1" ∷ codes "ring_nf" ∷ codes "abel" ∷ codes "abel1" ∷ codes "abel_nf" ∷ codes "group" ∷ codes "positivity" ∷ codes "field_simp" ∷ []
+use Rattle.alg_binders.specs.Procedures.{procedure_named}
 
 -- a procedure on a goal of the sort k
 abbrev pub step_faults : Scope → Sort → Step → List Cause
 step_faults s k (step.Combination f e) = faults s true k (meant e)
-step_faults s k (step.Procedure n) = when (not (is_among procedures n.text)) UnknownProcedure
+step_faults s k (step.Procedure n) = when (not (is_some (procedure_named n.text))) UnknownProcedure
 
 abbrev pub further_faults : Scope → Sort → List Further → List Cause
 further_faults s k [] = []

@@ -5,11 +5,11 @@ ghost use Rattle.alg_law.specs.Declarations.{Declaration, IsDeclaredIn};
 ghost use Rattle.alg_elaborate.specs.Faults.{first};
 ghost use Rattle.alg_elaborate.specs.Statements.{typed_statement};
 ghost use Rattle.alg_names.specs.Entering.{entered};
-ghost use Rattle.alg_binders.specs.Binders.{is_among};
 ghost use Rattle.alg_binders.specs.Stated.{IsStated};
-ghost use Rattle.alg_binders.specs.CommandFaults.{procedures, step_faults, further_faults, script_faults, proof_faults, goal_faults};
+ghost use Rattle.alg_binders.specs.CommandFaults.{step_faults, further_faults, script_faults, proof_faults, goal_faults};
 
 use crate::binders::add_binders;
+use crate::procedures::procedure_named;
 use alg_elaborate::{Cause, elaborate_statement, first_fault, mark_proofs};
 use alg_expr::{Arena, Items, Memory, Sort, Stmt};
 use alg_law::Declared;
@@ -23,21 +23,6 @@ use std::alloc::Global;
 pub struct Stated {
     pub local: Items<Declared>,
     pub stmt: Stmt,
-}
-
-fn is_procedure(text: &str) -> bool
-    ensures { result ≡ is_among procedures text.now }
-{
-    text == "norm_num"
-        || text == "ring"
-        || text == "ring1"
-        || text == "ring_nf"
-        || text == "abel"
-        || text == "abel1"
-        || text == "abel_nf"
-        || text == "group"
-        || text == "positivity"
-        || text == "field_simp"
 }
 
 // The first fault of a procedure on a goal of the sort `kind`.
@@ -56,7 +41,7 @@ fn step_fault<'a>(
             first_fault(alloc, nodes, scope, proofs.as_slice(), true, kind, root)
         }
         Step::Procedure(name) => {
-            if is_procedure(name.text()) {
+            if procedure_named(name.text()).is_some() {
                 Ok(None)
             } else {
                 Ok(Some(Cause::UnknownProcedure))

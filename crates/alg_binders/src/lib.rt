@@ -6,6 +6,7 @@ mod binders;
 mod class_names;
 mod domains;
 mod goals;
+mod procedures;
 mod taken;
 
 pub use adding::add_names;
@@ -13,7 +14,5 @@ pub use binders::{add_binder, add_binders};
 pub use class_names::class_named;
 pub use domains::{Said, elaborate_domain};
 pub use goals::{Stated, elaborate_goal};
+pub use procedures::{Procedure, procedure_named};
 pub use taken::taken_fault;
-
-#[cfg(test)]
-mod tests;

@@ -2,11 +2,12 @@
 use Rattle.std.specs.Prelude.{◌≡◌, suc, ◌-◌, List, [], ◌∷◌, ◌++◌, length, Some, slice_get}
 use Rattle.std.proofs.Common.{refl, ap, sym, ◌∙◌, arith, append-nil, append_assoc}
 use Rattle.alg_terms.specs.Tree.{Statement}
-use Rattle.alg_terms.specs.Order.{tree_same-self, sort_same-self, rel_same-self}
+use Rattle.alg_terms.proofs.OrderLaws.{tree_same-self, sort_same-self, rel_same-self}
 use Rattle.alg_proof.specs.Steps.{Theory, Step}
 use Rattle.alg_proof.specs.Causes.{line_at}
 use Rattle.alg_proof.specs.Valid.{verdict, verdict_from, go_on, ends_in, Accepted}
-use Rattle.alg_proof.specs.Admissible.{IsTheory, AllFine, AllFine-push, conclude-fine}
+use Rattle.alg_proof.specs.Admissible.{IsTheory, AllFine}
+use Rattle.alg_proof.proofs.Admissible.{AllFine-push, conclude-fine}
 use Rattle.alg_build.specs.Good.{AreGood, none, one_more}
 
 from_good : (th : Theory) (steps : List Step) (done : List Statement) (more : List Step) (goal : Statement) → AreGood th steps done → verdict_from th [] (steps ++ more) goal ≡ verdict_from th done more goal

@@ -6,11 +6,13 @@ use Rattle.std.proofs.lemmas.Bool.Decides.{nat_tests}
 use Rattle.std.proofs.lemmas.List.Elements.{All-head, All-tail, All-push}
 use Rattle.indexmap.specs.IndexSet.{insert_key}
 use Rattle.alg_terms.specs.Tree.{Tree}
-use Rattle.alg_terms.specs.Order.{tree_same, tree_same-equal, tree_same-self}
+use Rattle.alg_terms.specs.Order.{tree_same}
+use Rattle.alg_terms.proofs.OrderLaws.{tree_same-equal, tree_same-self}
 use Rattle.alg_expr.specs.contracts.ids.ExprIdPartialEq.TheImpl as id_eq
 use Rattle.alg_expr.specs.declared.ids.ExprId.{ExprId}
 use Rattle.alg_expr.specs.Ids.{tree_of, trees_at, IsIn}
-use Rattle.alg_expr.specs.Distinct.{AreDistinct, same_id-from_tree}
+use Rattle.alg_expr.specs.Distinct.{AreDistinct}
+use Rattle.alg_expr.proofs.DistinctLaws.{same_id-from_tree}
 use Rattle.alg_build.specs.Atoms.{with_atom, number_of}
 use Rattle.alg_build.specs.Book.{Book}
 use Rattle.alg_build.specs.Inside.{Held, book_of, IsSound}

@@ -8,11 +8,11 @@ use Rattle.std.proofs.lemmas.Option.{slice_get-map}
 use Rattle.alg_terms.specs.declared.sorts.Sort.{Sort}
 use Rattle.alg_terms.specs.declared.symbols.Sym.{Sym}
 use Rattle.alg_terms.specs.Tree.{Tree, Lit, App, Cons, Nil, Statement, of_list, sort_of_tree, equal}
-use Rattle.alg_terms.specs.Order.{tree_same-self, sort_same-self}
+use Rattle.alg_terms.proofs.OrderLaws.{tree_same-self, sort_same-self}
 use Rattle.alg_expr.specs.declared.ids.ExprId.{ExprId}
 use Rattle.alg_expr.specs.declared.ids.Stmt.{Stmt}
 use Rattle.alg_expr.specs.Ids.{tree_of, trees_at, statement_of, statements_of}
-use Rattle.alg_expr.specs.Arena.{Extends-then, tree_of-extends}
+use Rattle.alg_expr.proofs.ArenaLaws.{Extends-then, tree_of-extends}
 use Rattle.alg_expr.specs.declared.memory.Memory.{Memory}
 use Rattle.alg_proof.specs.declared.lines.Line.{Line}
 use Rattle.alg_terms.specs.declared.causes.BadCause.{BadCause}

@@ -12,7 +12,8 @@ use Rattle.alg_expr.specs.declared.ids.Stmt.{Stmt}
 use Rattle.alg_expr.specs.declared.memory.Memory.{Memory}
 use Rattle.alg_expr.specs.Ids.{tree_of, trees_at, IsIn, statement_of, IsStatementIn}
 use Rattle.alg_expr.specs.Applying.{arity_fits, sorts_fit, sorts_at}
-use Rattle.alg_expr.specs.Arena.{Extends, IsIn-extends, tree_of-extends}
+use Rattle.alg_expr.specs.Arena.{Extends}
+use Rattle.alg_expr.proofs.ArenaLaws.{IsIn-extends, tree_of-extends}
 use Rattle.alg_law.specs.declared.marks.Mark.TheVariants.{Good}
 use Rattle.alg_law.specs.Declarations.{Declaration}
 use Rattle.alg_law.specs.WellSorted.{IsStatement, head_mark, sorts_of}

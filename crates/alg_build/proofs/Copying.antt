@@ -4,7 +4,8 @@ use Rattle.std.proofs.lemmas.List.{map-append}
 use Rattle.std.proofs.lemmas.List.Elements.{All-head, All-tail, All-push}
 use Rattle.std.proofs.Math.Seq.{take-suc}
 use Rattle.alg_terms.specs.Tree.{Tree}
-use Rattle.alg_expr.specs.Arena.{Extends, IsIn-extends, tree_of-extends}
+use Rattle.alg_expr.specs.Arena.{Extends}
+use Rattle.alg_expr.proofs.ArenaLaws.{IsIn-extends, tree_of-extends}
 use Rattle.alg_law.specs.declared.combo.ComboStep.{ComboStep}
 use Rattle.alg_law.specs.declared.combo.ComboStep.TheVariants as step
 use Rattle.alg_build.specs.Combos.{Expr, part_of, parts_of, IsPartIn, ArePartsIn}

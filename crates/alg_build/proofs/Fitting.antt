@@ -10,13 +10,14 @@ use Rattle.alg_terms.specs.declared.symbols.Place.{Place}
 use Rattle.alg_terms.specs.declared.symbols.Place.TheVariants.{Same, OfNat, OfInt}
 use Rattle.alg_terms.specs.Symbols.{is_built_in, places, serves, place_fits, places_fit, arguments_fit}
 use Rattle.alg_terms.specs.Tree.{App, Cons, Statement, equal}
-use Rattle.alg_terms.specs.Order.{sort_same, sort_same-equal}
+use Rattle.alg_terms.specs.Order.{sort_same}
+use Rattle.alg_terms.proofs.OrderLaws.{sort_same-equal}
 use Rattle.alg_expr.specs.Applying.{arity_fits, sorts_fit}
 use Rattle.alg_law.specs.declared.marks.Mark.{Mark}
 use Rattle.alg_law.specs.declared.marks.Mark.TheVariants.{Good, BadSort}
 use Rattle.alg_law.specs.Declarations.{Declaration}
 use Rattle.alg_law.specs.WellSorted.{symbol_mark, head_mark, sort_mark, built_in_mark, class_mark, has_classes, of_function, function_of, sorts_same, same_mark, sorts_of}
-use Rattle.alg_law.specs.WellSortedLaws.{worse-parts}
+use Rattle.alg_law.proofs.WellSortedLaws.{worse-parts}
 use Rattle.alg_proof.specs.Steps.{Cong, conclude, value_sort, same_sort, second_of, name_mark, name_of, left_sides, right_sides, all_equations}
 use Rattle.alg_proof.specs.Causes.{statements_at}
 use Rattle.alg_build.specs.Book.{Book, left_at, right_at, lefts_at, rights_at, IsEquation}

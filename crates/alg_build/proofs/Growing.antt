@@ -9,7 +9,8 @@ use Rattle.alg_terms.specs.Tree.{Tree, Statement}
 use Rattle.alg_expr.specs.declared.ids.ExprId.{ExprId}
 use Rattle.alg_expr.specs.declared.ids.Stmt.{Stmt}
 use Rattle.alg_expr.specs.Ids.{tree_of, trees_at, IsIn, statement_of, statements_of, IsStatementIn}
-use Rattle.alg_expr.specs.Arena.{Extends, GrowsBy, Imports, Extends-self, GrowsBy-Extends, IsIn-extends, tree_of-extends, statement_of-extends, statements_of-extends, IsStatementIn-extends}
+use Rattle.alg_expr.specs.Arena.{Extends, GrowsBy, Imports}
+use Rattle.alg_expr.proofs.ArenaLaws.{Extends-self, GrowsBy-Extends, IsIn-extends, tree_of-extends, statement_of-extends, statements_of-extends, IsStatementIn-extends}
 use Rattle.alg_law.specs.Declarations.{Declaration}
 use Rattle.alg_proof.specs.declared.lines.Line.{Line}
 use Rattle.alg_proof.specs.declared.lines.Line.TheVariants as line
@@ -17,7 +18,8 @@ use Rattle.alg_proof.specs.Lines.{step_of, steps_of, IsLineIn}
 use Rattle.alg_proof.specs.declared.lemma_rows.LemmaRow.{LemmaRow}
 use Rattle.alg_proof.specs.LemmaRows.{rows_of}
 use Rattle.alg_proof.specs.Following.{IsAdmissible}
-use Rattle.alg_proof.specs.Admissible.{IsTheory, IsFine, AllFine, fine_lines}
+use Rattle.alg_proof.specs.Admissible.{IsTheory, IsFine, AllFine}
+use Rattle.alg_proof.proofs.Admissible.{fine_lines}
 use Rattle.alg_law.specs.Following.{IsWellFormed}
 use Rattle.alg_law.specs.Lawful.{IsLawful}
 use Rattle.alg_law.specs.WellSorted.{IsStatement}

@@ -3,7 +3,7 @@ use Rattle.std.proofs.Common.{◌≡◌, [], ◌∷◌, ◌||◌, refl, true}
 use Rattle.alg_terms.specs.declared.sorts.Sort.{Sort}
 use Rattle.alg_terms.specs.declared.sorts.Sort.TheVariants.{Nat, Int}
 use Rattle.alg_terms.specs.declared.symbols.Sym.TheVariants.{Add, Mul, Neg, Sub, Inv, Div, Npow, Zpow, Nsmul, Zsmul, Min, Max}
-use Rattle.alg_terms.specs.Order.{sort_same-self}
+use Rattle.alg_terms.proofs.OrderLaws.{sort_same-self}
 use Rattle.alg_law.specs.declared.classes.Class.TheVariants.{AddMonoid, AddGroup, Semigroup, Monoid, Group, Field, LinearOrder}
 use Rattle.alg_law.specs.declared.marks.Mark.TheVariants.{Good}
 use Rattle.alg_law.specs.Having.{has_class}

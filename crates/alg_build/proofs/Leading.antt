@@ -4,7 +4,7 @@ use Rattle.std.specs.Prelude.{Result, IfOk}
 use Rattle.alg_terms.specs.Tree.{Statement, equal}
 use Rattle.alg_expr.specs.declared.memory.Memory.{Memory}
 use Rattle.alg_expr.specs.Ids.{tree_of}
-use Rattle.alg_expr.specs.Arena.{IsIn-extends, tree_of-extends}
+use Rattle.alg_expr.proofs.ArenaLaws.{IsIn-extends, tree_of-extends}
 use Rattle.alg_law.specs.Derivations.{related}
 use Rattle.alg_proof.specs.Steps.{Step}
 use Rattle.alg_build.specs.declared.outcome.Back.{Back}

@@ -9,7 +9,6 @@ pub mod Leading
 pub mod Scaling
 pub mod CongruenceLemmas
 pub mod TestLemmas
-pub mod Forward
 pub mod RowLines
 pub mod Rewritings
 pub mod TwoParts

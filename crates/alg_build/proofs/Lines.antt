@@ -5,7 +5,7 @@ use Rattle.std.proofs.lemmas.Grind.{common_steps}
 use Rattle.alg_terms.specs.Tree.{Tree, Statement, equal}
 use Rattle.alg_expr.specs.declared.ids.ExprId.{ExprId}
 use Rattle.alg_expr.specs.declared.memory.Memory.{Memory}
-use Rattle.alg_expr.specs.Arena.{Extends-self, Extends-then}
+use Rattle.alg_expr.proofs.ArenaLaws.{Extends-self, Extends-then}
 use Rattle.alg_proof.specs.Steps.{Step}
 use Rattle.alg_proof.specs.Causes.{line_at}
 use Rattle.alg_build.specs.Book.{Book, Grows, KeepsLines, LeavesLines, Makes, Adds, Concludes, Proves, IsEquation, left_at, right_at, fact, stated}

@@ -15,7 +15,7 @@ use Rattle.alg_build.specs.Book.{Book, Grows, Adds, Proves, IsThere, IsEquation,
 use Rattle.alg_build.proofs.Lines.{adds-proves, grows-proves, proves-equation, proves-left, proves-right}
 use Rattle.alg_build.specs.declared.rewriting.Rewriting.{Rewriting}
 use Rattle.alg_build.specs.Rewriting.{AllProve, AllTurn, Heads, IsRewriting, Stands, Turns, CanStand}
-use Rattle.alg_build.proofs.Rewritings.{rewritings, grows-heads, turns-same, is-rewriting}
+use Rattle.alg_build.proofs.Rewritings.{rewritings, grows-heads, grows-turns, turns-same, is-rewriting}
 use Rattle.alg_build.proofs.RowLines.{adds-there}
 
 pub grows-all-prove : (a b : Book) (is : List ℕ) (xs ys : List Tree) → Grows a b → AllProve a is xs ys → AllProve b is xs ys
@@ -25,6 +25,16 @@ grows-all-prove a b [] (x ∷ xs) ys g h = absurd h
 grows-all-prove a b (i ∷ is) [] ys g h = absurd h
 grows-all-prove a b (i ∷ is) (x ∷ xs) [] g h = absurd h
 grows-all-prove a b (i ∷ is) (x ∷ xs) (y ∷ ys) g h = (grows-proves a b i x y g h.0, grows-all-prove a b is xs ys g h.1)
+
+pub grows-all-turn : (a b : Book) (ss : List Sort) (rs : List Rewriting) (xs ys : List Tree) → Grows a b → AllTurn a ss rs xs ys → AllTurn b ss rs xs ys
+grows-all-turn a b [] [] [] [] g h = tt
+grows-all-turn a b [] [] [] (y ∷ ys) g h = absurd h
+grows-all-turn a b [] [] (x ∷ xs) ys g h = absurd h
+grows-all-turn a b (s ∷ ss) [] xs ys g h = absurd h
+grows-all-turn a b [] (r ∷ rs) xs ys g h = absurd h
+grows-all-turn a b (s ∷ ss) (r ∷ rs) [] ys g h = absurd h
+grows-all-turn a b (s ∷ ss) (r ∷ rs) (x ∷ xs) [] g h = absurd h
+grows-all-turn a b (s ∷ ss) (r ∷ rs) (x ∷ xs) (y ∷ ys) g h = (grows-turns a b g s r x y h.0, grows-all-turn a b ss rs xs ys g h.1)
 
 -- lists that turn, cut before the last
 

@@ -1,22 +1,24 @@
 -- Rewritings as the book grows, and what their lines tell.
-use Rattle.std.proofs.Common.{◌≡◌, ℕ, List, [], ◌∷◌, refl, ap, sym, ◌∙◌, Some, None, true}
+use Rattle.std.proofs.Common.{◌≡◌, ℕ, ◌+◌, ◌≤◌, ◌^◌, List, [], ◌∷◌, refl, ap, sym, ◌∙◌, Some, None, true}
 use Rattle.std.specs.Prelude.{Option}
 use Rattle.alg_terms.specs.declared.sorts.Sort.{Sort}
 use Rattle.alg_terms.specs.declared.symbols.Sym.{Sym}
-use Rattle.alg_terms.specs.Tree.{Tree, Statement, equal, sort_of_tree}
+use Rattle.alg_terms.specs.declared.relations.Rel.TheVariants.{Eq}
+use Rattle.alg_terms.specs.Tree.{Tree, App, Statement, equal, node_count, of_list, sort_of_tree}
 use Rattle.alg_expr.specs.declared.ids.ExprId.{ExprId}
 use Rattle.alg_expr.specs.declared.ids.Stmt.{Stmt}
 use Rattle.alg_expr.specs.Ids.{tree_of, statement_of, IsStatementIn}
-use Rattle.alg_expr.specs.Arena.{IsIn-extends, tree_of-extends}
+use Rattle.alg_expr.proofs.ArenaLaws.{IsIn-extends, tree_of-extends}
 use Rattle.alg_expr.specs.Applying.{sorts_fit}
 use Rattle.alg_build.proofs.Fitting.{fits}
-use Rattle.alg_law.specs.WellSorted.{IsWellSorted}
+use Rattle.alg_law.specs.Derivations.{related}
+use Rattle.alg_law.specs.WellSorted.{IsWellSorted, has_relation}
 use Rattle.alg_proof.specs.Admissible.{IsFine}
 use Rattle.alg_proof.specs.Steps.{Step}
-use Rattle.alg_build.specs.Book.{Book, Grows, Proves, Adds, IsThere, IsEquation, fact, left_at, right_at}
+use Rattle.alg_build.specs.Book.{Book, Concludes, Grows, Proves, Adds, IsThere, IsEquation, fact, left_at, right_at}
 use Rattle.alg_build.proofs.Lines.{lines, grows-proves, adds-proves, adds-grows, adds-concludes, proves-equation, proves-fact, proves-left, proves-right}
 use Rattle.alg_build.specs.declared.rewriting.Rewriting.{Rewriting}
-use Rattle.alg_build.specs.Rewriting.{Says, Turns, TurnsIn, Stands, Heads, IsTerm, IsProved, IsRewriting, Follows, Begins, StandsOver, StandsOverOne}
+use Rattle.alg_build.specs.Rewriting.{Says, Turns, TurnsIn, Stands, Heads, IsTerm, IsProved, IsRewriting, Follows, Begins, StandsOver, StandsOverOne, Meet, Relates, Remains, PartsTurn, AllTurn}
 
 -- growth
 
@@ -130,6 +132,18 @@ module _ (b : Book) where
   pub stands-over : (f : Sym) (sort s t : Sort) (r q : Rewriting) (x y z w : Tree) → Turns b s r x y → Turns b t q z w → Heads b f sort (s ∷ t ∷ []) → StandsOver b f sort r q
   stands-over f sort s t r q x y z w h k m = record { left_sort = s; right_sort = t; from_left = x; from_right = z; into_left = y; into_right = w; left = h; right = k; heads = m }
 
+  pub meets : (g : Stmt) (r q : Rewriting) (x y z : Tree) → g.rel ≡ Eq → Stands b g.sort g.lhs x → Stands b g.sort g.rhs y → Turns b g.sort r x z → Turns b g.sort q y z → Meet b g r q
+  meets g r q x y z e h k m n = record { from_left = x; from_right = y; into = z; rel = e; left = h; right = k; left_turns = m; right_turns = n }
+
+  pub relates : (g : Stmt) (r q : Rewriting) (line : ℕ) (x y z w : Tree) → Stands b g.sort g.lhs x → Stands b g.sort g.rhs y → Turns b g.sort r x z → Turns b g.sort q y w → Concludes b line (related g.rel g.sort z w) → Relates b g r q line
+  relates g r q line x y z w h k m n p = record { from_left = x; from_right = y; into_left = z; into_right = w; left = h; right = k; left_turns = m; right_turns = n; relation = p }
+
+  pub remains : (g : Stmt) (r q : Rewriting) (x y z w : Tree) → Stands b g.sort g.lhs x → Stands b g.sort g.rhs y → Turns b g.sort r x z → Turns b g.sort q y w → has_relation b.theory.declarations g.rel g.sort ≡ true → node_count z + node_count w ≤ 2 ^ 20 → Remains b g r q
+  remains g r q x y z w h k m n p l = record { from_left = x; from_right = y; into_left = z; into_right = w; left = h; right = k; left_turns = m; right_turns = n; related = p; small = l }
+
+  pub parts-turn : (e : ExprId) (f : Sym) (rs : List Rewriting) (s : Sort) (ss : List Sort) (xs ys : List Tree) → Stands b s e (App f s (of_list xs)) → AllTurn b ss rs xs ys → Heads b f s ss → PartsTurn b e f rs
+  parts-turn e f rs s ss xs ys h k m = record { sort = s; sorts = ss; from = xs; into = ys; stands = h; turn = k; heads = m }
+
 module _ (a b : Book) (g : Grows a b) where
   pub grows-term : (e : ExprId) → IsTerm a e → IsTerm b e
   grows-term e h = record { sort = h.sort; tree = h.tree; stands = grows-stands a b g h.sort e h.tree h.stands }
@@ -144,3 +158,6 @@ sorts_stay b f sort r q h =
     ∙ (fits b.theory.declarations f sort (h.left_sort ∷ h.right_sort ∷ []) h.heads.good).sorts
 
 pub ruleset rewritings = (lines, grows-turns, grows-stands, grows-heads, turns-proves, concluded, target, sorts_stay, is-term, is-rewriting, turns-in, is-proved, stands-over_one, follows, begins, stands-over, grows-term, grows-rewriting)
+
+-- and what the calls ask for that end a goal or go under any number of parts
+pub ruleset endings = (rewritings, meets, relates, remains, parts-turn)

@@ -9,10 +9,11 @@ use Rattle.alg_law.specs.declared.marks.Mark.TheVariants.{Good}
 use Rattle.alg_law.specs.Declarations.{Declaration}
 use Rattle.alg_law.specs.Having.{has_class}
 use Rattle.alg_law.specs.WellSorted.{IsWellSorted, sort_mark}
-use Rattle.alg_law.specs.WellSortedLaws.{known-from_good}
+use Rattle.alg_law.proofs.WellSortedLaws.{known-from_good}
 use Rattle.alg_law.specs.Patterns.{letter_sort}
 use Rattle.alg_law.specs.Rows.{Row, letters_of, meets_all, MayFill}
 use Rattle.alg_proof.specs.Causes.{statements_at}
+use Rattle.alg_lemma.specs.Library.{HoldsLibrary}
 use Rattle.alg_build.specs.Book.{Book, Concludes, Grows, Proves}
 use Rattle.alg_build.proofs.Rewritings.{rewritings}
 
@@ -233,4 +234,7 @@ module _ (a b : Book) where
   pub grows-known : (s : Sort) → Grows a b → sort_mark a.theory.declarations s ≡ Good → sort_mark b.theory.declarations s ≡ Good
   grows-known s g h = rw g.theory h
 
-pub ruleset row_facts = (rewritings, one_fills, two_fill, three_fill, four_fill, none_fills, fill-n, fill-an, fill-ai, fill-abd, fill-abn, fill-abi, fill-acd, fill-amn, fill-aij, fill-bcm, fill-abcn, fill-abci, fill-abmn, fill-abij, fill-abcdn, fill-abcmn, fill-abnij, no_premise, one_premise, two_premises, three_premises, one_statement, two_statements, three_statements, grows-class, grows-known)
+  pub grows-library : Grows a b → HoldsLibrary a.theory.lemmas → HoldsLibrary b.theory.lemmas
+  grows-library g h = rw g.theory h
+
+pub ruleset row_facts = (rewritings, one_fills, two_fill, three_fill, four_fill, none_fills, fill-n, fill-an, fill-ai, fill-abd, fill-abn, fill-abi, fill-acd, fill-amn, fill-aij, fill-bcm, fill-abcn, fill-abci, fill-abmn, fill-abij, fill-abcdn, fill-abcmn, fill-abnij, no_premise, one_premise, two_premises, three_premises, one_statement, two_statements, three_statements, grows-class, grows-known, grows-library)

@@ -7,9 +7,9 @@ use Rattle.alg_law.specs.Rows.{Row, MayFill}
 use Rattle.alg_proof.specs.Causes.{statements_at}
 use Rattle.alg_proof.specs.Steps.{Step, Law, Lemma}
 use Rattle.alg_build.specs.Book.{Book, Adds, Concludes, Proves, IsThere}
-use Rattle.alg_build.specs.Citing.{premises_of, conclusion_of}
+use Rattle.alg_proof.specs.Citing.{premises_of, conclusion_of}
 use Rattle.alg_build.specs.Good.{IsGood, MayConclude}
-use Rattle.alg_build.proofs.Forward.{law_leads, lemma_leads}
+use Rattle.alg_proof.proofs.Forward.{law_leads, lemma_leads}
 use Rattle.alg_build.proofs.Lines.{lines, adds-proves, adds-concludes}
 
 -- lines of rows

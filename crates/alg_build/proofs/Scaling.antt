@@ -10,12 +10,12 @@ use Rattle.alg_expr.specs.declared.ids.Stmt.{Stmt}
 use Rattle.alg_expr.specs.declared.memory.Memory.{Memory}
 use Rattle.alg_expr.specs.Ids.{tree_of, trees_at, statement_of}
 use Rattle.alg_expr.specs.Applying.{sorts_fit}
-use Rattle.alg_expr.specs.Arena.{IsIn-extends, tree_of-extends}
+use Rattle.alg_expr.proofs.ArenaLaws.{IsIn-extends, tree_of-extends}
 use Rattle.alg_law.specs.declared.marks.Mark.TheVariants.{Good}
 use Rattle.alg_law.specs.Declarations.{Declaration}
 use Rattle.alg_law.specs.Derivations.{related}
 use Rattle.alg_law.specs.WellSorted.{IsWellSorted, IsStatement, head_mark, mark_of, marks_of, sorts_of}
-use Rattle.alg_law.specs.WellSortedLaws.{worse-parts}
+use Rattle.alg_law.proofs.WellSortedLaws.{worse-parts}
 use Rattle.alg_proof.specs.Steps.{Step}
 use Rattle.alg_build.specs.Backs.{Rewrites, Scales, MayScale, inverse_tree}
 use Rattle.alg_build.specs.Book.{Book, Grows, KeepsLines, Makes, Adds, Concludes, Proves, IsThere, IsEquation, fact, left_at, right_at, lefts_at, rights_at}

@@ -7,7 +7,6 @@ pub mod Inside
 pub mod Backs
 pub mod Combos
 pub mod Sides
-pub mod Citing
 pub mod Rewriting
 pub mod Answer
 pub mod Computing

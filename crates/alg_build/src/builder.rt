@@ -157,6 +157,16 @@ impl Builder {
         self.arena.import(from, e)
     }
 
+    /// Copies a statement of another arena.
+    pub fn import(&mut self, from: &Arena, s: Stmt) -> Result<Stmt, Memory>
+        requires { IsStatementIn from.now s }
+        ensures here { IfOk result (λ t. IsStatementIn self.new.trees t) }
+        ensures statement { IfOk result (λ t. statement_of self.new.trees t ≡ statement_of from.now s) }
+        ensures keeps { KeepsLines self.old self.new }
+    {
+        self.arena.import_statement(from, s)
+    }
+
     /// The number of the tree among the atoms, from 0 in the order of their first use. Equal trees have equal numbers,
     /// and no others have.
     pub fn atom(&mut self, e: ExprId) -> Result<usize, Memory>

@@ -8,7 +8,7 @@ ghost use Rattle.alg_proof.specs.Causes.{statements_at};
 ghost use Rattle.alg_proof.specs.LemmaRows.{lemma_row_of};
 ghost use Rattle.alg_proof.specs.Names.{IsName};
 ghost use Rattle.alg_build.specs.Book.{Concludes, Grows};
-ghost use Rattle.alg_build.specs.Citing.{premises_of, conclusion_of};
+ghost use Rattle.alg_proof.specs.Citing.{premises_of, conclusion_of};
 ghost use Rattle.alg_build.specs.Rewriting.{Turns};
 
 use crate::builder::Builder;

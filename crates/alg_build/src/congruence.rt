@@ -9,8 +9,8 @@ ghost use Rattle.alg_build.specs.Book.{lefts_at, rights_at, IsEquation, KeepsLin
 ghost use Rattle.alg_build.specs.Sides.{AreSides};
 
 use crate::builder::Builder;
-use crate::sorts::value_of;
 use alg_expr::{ExprId, Memory, Sort, Stmt, Sym};
+use alg_proof::value_sort;
 use smallvec::SmallVec;
 
 // the left sides and the right sides of lines: of a short list in place
@@ -56,7 +56,7 @@ impl Builder {
         requires fits { (sort : SortKind) × (head_mark self.now.theory.declarations sym sort (sorts_at self.now.trees args.now) ≡ Good) }
         ensures { (sort : SortKind) → head_mark self.now.theory.declarations sym sort (sorts_at self.now.trees args.now) ≡ Good → result ≡ sort }
     {
-        match value_of(self.base(), self.arena(), sym, args) {
+        match value_sort(self.base(), self.arena(), sym, args) {
             Some(sort) => sort,
             None => unreachable!(),
         }

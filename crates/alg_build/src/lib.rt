@@ -16,7 +16,6 @@ pub mod outcome;
 pub mod over_parts;
 pub mod rewriting;
 pub mod rows;
-mod sorts;
 pub mod trees;
 
 pub use alg_expr::Memory;

@@ -13,7 +13,7 @@ ghost use Rattle.alg_proof.specs.Names.{IsName};
 ghost use Rattle.alg_proof.specs.Lines.{step_of, IsLineIn};
 ghost use Rattle.alg_proof.specs.Steps.{Cong, Law as LawStep, Lemma as LemmaStep};
 ghost use Rattle.alg_build.specs.Book.{lefts_at, rights_at, IsEquation, Grows, KeepsLines, Adds};
-ghost use Rattle.alg_build.specs.Citing.{premises_of, conclusion_of};
+ghost use Rattle.alg_proof.specs.Citing.{premises_of, conclusion_of};
 ghost use Rattle.alg_build.specs.Good.{IsGood, MayConclude};
 
 use crate::builder::Builder;
@@ -70,7 +70,7 @@ impl Builder {
         ensures grows { Grows self.old self.new }
         ensures err { OnErr result (KeepsLines self.old self.new) }
     {
-        let name = RowName::new(self.alloc(), row.name)?;
+        let name = RowName::known(row.name);
         let letters = copies_of(self.alloc(), with)?;
         let numbers = numbers_of(self.alloc(), from)?;
         self.line(Line::Law(name, sort, letters, numbers))
@@ -94,7 +94,7 @@ impl Builder {
         ensures grows { Grows self.old self.new }
         ensures err { OnErr result (KeepsLines self.old self.new) }
     {
-        let name = RowName::new(self.alloc(), row.row.name)?;
+        let name = RowName::known(row.row.name);
         let letters = copies_of(self.alloc(), with)?;
         let numbers = numbers_of(self.alloc(), from)?;
         self.line(Line::Lemma(name, sort, letters, numbers))

@@ -2,12 +2,15 @@ ghost use Rattle.std.specs.Prelude.{IfOk};
 ghost use Rattle.alg_terms.specs.declared.sorts.Sort.TheVariants.{Nat};
 ghost use Rattle.alg_terms.specs.Tree.{Lit};
 ghost use Rattle.alg_expr.specs.Ids.{IsIn};
+ghost use Rattle.alg_lemma.specs.Library.{HoldsLibrary};
 ghost use Rattle.alg_build.specs.Book.{Proves};
 ghost use Rattle.alg_build.specs.Combos.{ArePartsIn};
 
-use crate::{Back, Builder, Memory};
+use crate::{Back, Builder, Memory, Rewriting, by_lemma};
 use alg_expr::{Arena, ExprId, Items, Sort};
 use alg_law::{Base, Combo, ComboStep};
+use alg_lemma::library;
+use alg_lemma::node_sums::ADD_TAIL;
 use alg_proof::Lemmas;
 use std::alloc::Global;
 use std::rc::Rc;
@@ -23,6 +26,16 @@ fn two_is_two(cx: &mut Builder) -> Result<usize, Memory>
 {
     let two = cx.lit(Sort::Nat, 2)?;
     cx.refl(two)
+}
+
+// `0 + 0 + 0 = 0 + 0`, from `0 + 0 = 0`
+#[tactic(auto, using(crate::proofs::TestLemmas::test_facts))]
+fn zeros(cx: &mut Builder) -> Result<Rewriting, Memory>
+    requires { HoldsLibrary cx.old.theory.lemmas }
+{
+    let zero = cx.lit(Sort::Nat, 0)?;
+    let line = cx.lit_add(Sort::Nat, 0, 0)?;
+    by_lemma(cx, &ADD_TAIL, Sort::Nat, &[zero, zero, zero, zero], &[line])
 }
 
 // the combination that is this expression
@@ -79,5 +92,16 @@ fn backs_lead_to_the_first_goal(rt: HostRuntime) -> Result<(), Memory> {
     };
     let line = cx.conclude(&[back], same)?;
     assert_eq!(rt; line, 4);
+    Ok(())
+}
+
+#[test]
+fn a_lemma_gives_a_line(rt: HostRuntime) -> Result<(), Memory> {
+    let alloc = rt.alloc();
+    let lemmas = Rc::new(alloc, library(alloc)?)?;
+    let mut cx = Builder::new(alloc, Base::new(alloc)?, lemmas)?;
+    let sum = zeros(&mut cx)?;
+    assert_eq!(rt; sum.line, Some(2));
+    assert_eq!(rt; cx.arena().size(sum.to), 3);
     Ok(())
 }

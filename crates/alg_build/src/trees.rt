@@ -1,30 +1,12 @@
 ghost use Rattle.std.specs.Prelude.{◌≡◌, IfOk};
-ghost use Rattle.alg_expr.specs.Ids.{statement_of, IsStatementIn};
 ghost use Rattle.alg_build.specs.Book.{KeepsLines};
 ghost use Rattle.alg_build.specs.Combos.{part_of, parts_of, IsPartIn, ArePartsIn};
 
 use crate::builder::Builder;
-use alg_expr::{Arena, Items, Memory, Stmt};
+use alg_expr::{Arena, Items, Memory};
 use alg_law::{Combo, ComboStep};
 
 impl Builder {
-    /// Copies a statement of another arena.
-    pub fn import(&mut self, from: &Arena, s: Stmt) -> Result<Stmt, Memory>
-        requires { IsStatementIn from.now s }
-        ensures here { IfOk result (λ t. IsStatementIn self.new.trees t) }
-        ensures statement { IfOk result (λ t. statement_of self.new.trees t ≡ statement_of from.now s) }
-        ensures keeps { KeepsLines self.old self.new }
-    {
-        let lhs = self.copy(from, s.lhs)?;
-        let rhs = self.copy(from, s.rhs)?;
-        Ok(Stmt {
-            rel: s.rel,
-            sort: s.sort,
-            lhs,
-            rhs,
-        })
-    }
-
     /// Copies a combination with its expressions, which are of another arena.
     pub fn import_combo(&mut self, from: &Arena, c: &Combo) -> Result<Combo, Memory>
         requires { ArePartsIn from.now c.now.steps }

@@ -7,10 +7,10 @@ use Rattle.alg_certificate.specs.declared.reader.State.TheVariants.{Outside, Bro
 use Rattle.alg_certificate.specs.Cutting.{cut, after, is_empty}
 use Rattle.alg_certificate.specs.Reader.{TextLine, Coming, kind_of, line_in, may_end, fails, ended, with_line, lines_from, coming_at, coming_of, after_header}
 use Rattle.alg_certificate.specs.Grammar.{Begins, NoneBegins, AreLines, header, AreLinesOf}
-use Rattle.alg_certificate.specs.NumberLaws.{some_is}
-use Rattle.alg_certificate.specs.WordLaws.{after_is}
-use Rattle.alg_certificate.specs.CuttingLaws.{after_whole}
-use Rattle.alg_certificate.specs.KindLaws.{line_complete}
+use Rattle.alg_certificate.proofs.NumberLaws.{some_is}
+use Rattle.alg_certificate.proofs.WordLaws.{after_is}
+use Rattle.alg_certificate.proofs.CuttingLaws.{after_whole}
+use Rattle.alg_certificate.proofs.KindLaws.{line_complete}
 use Rattle.alg_certificate.proofs.LineLaws.{line_text}
 use Rattle.alg_certificate.proofs.Steps.{broken}
 use Rattle.alg_certificate.proofs.Feeds.{CutOff, cut_off, all_left, no_line, same_line}

@@ -2,7 +2,7 @@
 use Rattle.std.proofs.Common.{◌≡◌, ◌≢◌, ℕ, ◌+◌, List, [], ◌∷◌, ◌++◌, length, take, refl, sym, ap, ◌∙◌, arith, append_assoc, append-nil, take_at, length-append}
 use Rattle.alg_certificate.specs.Cutting.{cut}
 use Rattle.alg_certificate.specs.Grammar.{HasNoFeed}
-use Rattle.alg_certificate.specs.CuttingLaws.{cut_feed, cut_none}
+use Rattle.alg_certificate.proofs.CuttingLaws.{cut_feed, cut_none}
 
 pub record Passed (all : List ℕ) (count : ℕ) (left : List ℕ) : Type 0 where
   pub line : List ℕ

@@ -3,7 +3,7 @@ use Rattle.std.proofs.Common.{◌≡◌, ◌≢◌, ℕ, Bool, true, false, List
 use Rattle.std.proofs.lemmas.Bool.{eqb-false}
 use Rattle.alg_certificate.specs.Cutting.{Cut, cut, into}
 use Rattle.alg_certificate.specs.Grammar.{HasNoFeed}
-use Rattle.alg_certificate.specs.CuttingLaws.{cut_feed}
+use Rattle.alg_certificate.proofs.CuttingLaws.{cut_feed}
 
 pub record CutOff (bytes line : List ℕ) (lines : List (List ℕ)) (tail : List ℕ) : Type 0 where
   pub rest : List ℕ

@@ -16,9 +16,9 @@ use Rattle.alg_certificate.specs.Words.{is_sort, is_symbol}
 use Rattle.alg_certificate.specs.Spelling.{spell, spell_all, Item, tree, word, semicolon, spell_item, spell_items, IsSome, TreeFits, TreesFit, bytes}
 use Rattle.alg_certificate.specs.Walks.{Standing, is_tree_slot, fits, first_fit, may_stop, opens, begun, go, walks, allows}
 use Rattle.alg_certificate.specs.Items.{FitsSlot, Matches, AreItems}
-use Rattle.alg_certificate.specs.TokenLaws.{AllGood, tokens_sound}
-use Rattle.alg_certificate.specs.NumberLaws.{some_is}
-use Rattle.alg_certificate.specs.WordLaws.{sort_is, symbol_is}
+use Rattle.alg_certificate.proofs.TokenLaws.{AllGood, tokens_sound}
+use Rattle.alg_certificate.proofs.NumberLaws.{some_is}
+use Rattle.alg_certificate.proofs.WordLaws.{sort_is, symbol_is}
 
 -- the ends of the nodes that are open, each with the arguments that are left
 abbrev closing : List Trees → List Tok

@@ -17,9 +17,9 @@ use Rattle.alg_certificate.specs.Reader.{TextLine, goal_line, given_line, proof_
 use Rattle.alg_certificate.specs.Spelling.{goal_bytes}
 use Rattle.alg_certificate.specs.Items.{IsProofText, IsGivenText, IsSpelled}
 use Rattle.alg_certificate.specs.Grammar.{IsTextOf, behind_line}
-use Rattle.alg_certificate.specs.NumberLaws.{some_is, number_sound as number_text}
-use Rattle.alg_certificate.specs.LexingLaws.{parts}
-use Rattle.alg_certificate.specs.WordLaws.{word_is, after_is, nothing_left}
+use Rattle.alg_certificate.proofs.NumberLaws.{some_is, number_sound as number_text}
+use Rattle.alg_certificate.proofs.LexingLaws.{parts}
+use Rattle.alg_certificate.proofs.WordLaws.{word_is, after_is, nothing_left}
 use Rattle.alg_certificate.proofs.ItemLaws.{allows_sound}
 
 abbrev Sound : List ℕ → Kind → Type 0

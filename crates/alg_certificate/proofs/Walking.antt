@@ -8,8 +8,8 @@ use Rattle.alg_certificate.specs.Lexed.{Lexed, tokens}
 use Rattle.alg_certificate.specs.Cutting.{is_empty}
 use Rattle.alg_certificate.specs.Words.{is_sort, is_symbol}
 use Rattle.alg_certificate.specs.Walks.{Standing, first_fit, opens, begun, closed, in_tree, after_tree, at_blank, moved, may_stop_at, go, walks, walks_all, allows}
-use Rattle.alg_certificate.specs.LexingLaws.{token_sound}
-use Rattle.alg_certificate.specs.TokenLaws.{next_some, next_none, shorter}
+use Rattle.alg_certificate.proofs.LexingLaws.{token_sound}
+use Rattle.alg_certificate.proofs.TokenLaws.{next_some, next_none, shorter}
 
 pub record Walked (all : List ℕ) (parts : List Part) (p : Spot) (d : ℕ) (ps : List Part) (left : List ℕ) : Type 0 where
   pub same : allows parts all ≡ walks_all (tokens left) p d ps

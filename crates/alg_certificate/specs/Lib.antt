@@ -1,5 +1,4 @@
 pub mod Numbers
-pub mod NumberLaws
 pub mod Tokens
 pub mod Seen
 pub mod Lexed
@@ -13,20 +12,3 @@ pub mod Reader
 pub mod Pending
 pub mod Items
 pub mod Grammar
-pub mod LexingLaws
-pub mod ApartLaws
-pub mod TokenLaws
-pub mod WordLaws
-pub mod Wordlike
-pub mod Fitting
-pub mod Walkable
-pub mod FirstWords
-pub mod SlotLaws
-pub mod SpelledTexts
-pub mod SlotFitting
-pub mod PlainTexts
-pub mod TextLaws
-pub mod CuttingLaws
-pub mod KindLaws
-pub mod ComingLaws
-pub mod WrittenLines

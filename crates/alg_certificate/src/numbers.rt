@@ -2,9 +2,7 @@ ghost use Rattle.std.specs.Prelude.{◌≡◌, ◌≤◌, ◌+◌, ◌*◌, ◌-
 ghost use Rattle.alg_certificate.specs.Numbers.{is_digit, max_number, read_on, begins_digit, read_number};
 
 use crate::bytes::split;
-
-/// The greatest number that a certificate may have, 2^127 - 1.
-pub const MAX_NUMBER: u128 = 170_141_183_460_469_231_731_687_303_715_884_105_727;
+use alg_expr::GREATEST_LITERAL;
 
 fn is_digit(byte: u8) -> bool
     ensures { result ≡ is_digit byte }
@@ -19,11 +17,11 @@ fn with_digit(number: u128, digit: u8) -> Option<u128>
     requires high { digit ≤ 57 }
     ensures { result ≡ (if nat_le (number * 10 + (digit - 48)) max_number then Some (number * 10 + (digit - 48)) else None) }
 {
-    if number > MAX_NUMBER / 10 {
+    if number > GREATEST_LITERAL / 10 {
         return None;
     }
     let more = number * 10 + (digit - 48) as u128;
-    if more <= MAX_NUMBER { Some(more) } else { None }
+    if more <= GREATEST_LITERAL { Some(more) } else { None }
 }
 
 // Goes on with a number.

@@ -22,8 +22,8 @@ use Rattle.alg_proof.specs.declared.lines.Line.{Line}
 use Rattle.alg_proof.specs.Lines.{IsLineIn}
 use Rattle.alg_proof.specs.Steps.{Step, LitRel}
 use Rattle.alg_certificate.specs.Numbers.{max_number}
-use Rattle.alg_certificate.specs.NumberLaws.{some_is}
-use Rattle.alg_certificate.specs.Wordlike.{sort_word, symbol_word, number_word, name_word}
+use Rattle.alg_certificate.proofs.NumberLaws.{some_is}
+use Rattle.alg_certificate.proofs.Wordlike.{sort_word, symbol_word, number_word, name_word}
 use Rattle.alg_certificate.specs.Words.{sort_bytes, symbol_bytes, relation_bytes, bridge_bytes, head_bytes}
 use Rattle.alg_certificate.specs.Tokens.{Tok, Blank, Close, Semi, Open, Lit, Var, Word, is_word, all_word, is_some_word}
 use Rattle.alg_certificate.specs.Spelling.{Item, tree, word, semicolon, bytes, spell, spell_all, spell_items, trees_before, numbers, IsInRange, SortFits, SymbolFits, HeadFits, TreeFits, TreesFit}

@@ -6,7 +6,7 @@ use Rattle.std.proofs.lemmas.Option.{none-some, same_Some}
 use Rattle.alg_terms.specs.declared.sorts.Sort.{Sort}
 use Rattle.alg_terms.specs.declared.symbols.Sym.{Sym}
 use Rattle.alg_terms.specs.Tree.{Tree, App as node, of_list, sort_of_tree}
-use Rattle.alg_terms.specs.Order.{sort_same-self}
+use Rattle.alg_terms.proofs.OrderLaws.{sort_same-self}
 use Rattle.alg_expr.specs.declared.ids.ExprId.{ExprId}
 use Rattle.alg_expr.specs.Arena.{Extends}
 use Rattle.alg_expr.specs.Applying.{sorts_at}

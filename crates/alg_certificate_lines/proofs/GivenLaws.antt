@@ -6,16 +6,17 @@ use Rattle.alg_terms.specs.declared.sorts.Sort.{Sort}
 use Rattle.alg_terms.specs.declared.relations.Rel.{Rel}
 use Rattle.alg_terms.specs.declared.relations.Rel.TheVariants as rel
 use Rattle.alg_terms.specs.Tree.{Tree, Trees, Statement, sort_of_tree}
-use Rattle.alg_terms.specs.Order.{sort_same, sort_same-equal}
+use Rattle.alg_terms.specs.Order.{sort_same}
+use Rattle.alg_terms.proofs.OrderLaws.{sort_same-equal}
 use Rattle.alg_expr.specs.declared.ids.Stmt.{Stmt}
 use Rattle.alg_expr.specs.Ids.{IsIn, IsStatementIn, trees_at, statement_of}
 use Rattle.alg_law.specs.declared.marks.Mark.{Mark}
 use Rattle.alg_law.specs.declared.marks.Mark.TheVariants.{Good, NoInstance, BadSort, BadName}
 use Rattle.alg_law.specs.Declarations.{Declaration}
 use Rattle.alg_law.specs.WellSorted.{mark_of, has_relation, IsStatement}
-use Rattle.alg_certificate.specs.NumberLaws.{some_is}
-use Rattle.alg_certificate.specs.LexingLaws.{front_is, behind_is}
-use Rattle.alg_certificate.specs.Wordlike.{sort_word}
+use Rattle.alg_certificate.proofs.NumberLaws.{some_is}
+use Rattle.alg_certificate.proofs.LexingLaws.{front_is, behind_is}
+use Rattle.alg_certificate.proofs.Wordlike.{sort_word}
 use Rattle.alg_certificate.specs.Cutting.{after}
 use Rattle.alg_certificate.specs.Tokens.{is_word, all_word, begins_word, is_some_word, front, behind, first_word}
 use Rattle.alg_certificate.specs.Words.{sort_bytes, relation_bytes}

@@ -5,7 +5,8 @@ use Rattle.std.proofs.lemmas.List.Elements.{All-head, All-tail, All-take, All-dr
 use Rattle.alg_terms.specs.declared.symbols.Sym.{Sym}
 use Rattle.alg_terms.specs.Tree.{Tree}
 use Rattle.alg_expr.specs.declared.ids.ExprId.{ExprId}
-use Rattle.alg_expr.specs.Arena.{Extends, IsIn-extends, tree_of-extends}
+use Rattle.alg_expr.specs.Arena.{Extends}
+use Rattle.alg_expr.proofs.ArenaLaws.{IsIn-extends, tree_of-extends}
 use Rattle.alg_expr.specs.Ids.{tree_of, trees_at, IsIn}
 use Rattle.alg_law.specs.Declarations.{Declaration}
 use Rattle.alg_certificate_lines.specs.Typed.{node_of}

@@ -9,10 +9,10 @@ use Rattle.std.proofs.lemmas.Option.{none-some}
 use Rattle.alg_terms.specs.Tree.{Tree, Trees, Nil, Cons, Lit as literal, Var as variable, App as node, of_list}
 use Rattle.alg_proof.specs.Names.{IsName}
 use Rattle.alg_certificate.specs.Numbers.{Read, max_number}
-use Rattle.alg_certificate.specs.NumberLaws.{some_is}
-use Rattle.alg_certificate.specs.LexingLaws.{parts}
-use Rattle.alg_certificate.specs.Walkable.{items_quiet}
-use Rattle.alg_certificate.specs.Wordlike.{number_word, sort_word, symbol_word, name_word}
+use Rattle.alg_certificate.proofs.NumberLaws.{some_is}
+use Rattle.alg_certificate.proofs.LexingLaws.{parts}
+use Rattle.alg_certificate.proofs.Walkable.{items_quiet}
+use Rattle.alg_certificate.proofs.Wordlike.{number_word, sort_word, symbol_word, name_word}
 use Rattle.alg_certificate.specs.Cutting.{after}
 use Rattle.alg_certificate.specs.Tokens.{Tok, Blank, Close, Semi, Open, Lit, Var, Word, is_word, all_word, begins_word, is_some_word, front, behind, first_word}
 use Rattle.alg_certificate.specs.Words.{sort_bytes, symbol_bytes, numeral_bytes}

@@ -3,7 +3,7 @@ use Rattle.std.proofs.Common.{◌≡◌, ℕ, Bool, true, false, ◌&&◌, List,
 use Rattle.alg_law.specs.Declarations.{Declaration}
 use Rattle.alg_certificate.specs.Tokens.{Tok, read_token}
 use Rattle.alg_certificate.specs.Lexed.{Lexed, tokens}
-use Rattle.alg_certificate.specs.TokenLaws.{next_some, next_none}
+use Rattle.alg_certificate.proofs.TokenLaws.{next_some, next_none}
 use Rattle.alg_certificate_lines.specs.Known.{token_known, tokens_known}
 
 pub known_more : (ds : List Declaration) (t : Tok) (ts : List Tok) → tokens_known ds (t ∷ ts) ≡ (token_known ds t && tokens_known ds ts)

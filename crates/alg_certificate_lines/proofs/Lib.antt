@@ -10,3 +10,6 @@ pub mod StepLaws
 pub mod ItemLaws
 pub mod LineLaws
 pub mod CutLaws
+pub mod HeadLaws
+pub mod ReadBackLaws
+pub mod SpellingLaws

@@ -15,11 +15,11 @@ use Rattle.alg_proof.specs.declared.lines.ComputeHead.{ComputeHead}
 use Rattle.alg_proof.specs.declared.lines.Line.{Line}
 use Rattle.alg_proof.specs.Steps.{Step, Refl, Symm, Trans, Cong, Subst, Law, Lemma, Hyp, Rest, LitAdd, LitMul, LitRel, Bridge, Compute}
 use Rattle.alg_certificate.specs.Numbers.{max_number}
-use Rattle.alg_certificate.specs.NumberLaws.{some_is}
-use Rattle.alg_certificate.specs.Wordlike.{sort_word}
+use Rattle.alg_certificate.proofs.NumberLaws.{some_is}
+use Rattle.alg_certificate.proofs.Wordlike.{sort_word}
 use Rattle.alg_certificate.specs.Words.{sort_bytes, symbol_bytes, relation_bytes, bridge_bytes, head_bytes}
 use Rattle.alg_certificate.specs.Tokens.{is_some_word, first_word}
-use Rattle.alg_certificate.specs.Walkable.{items_quiet}
+use Rattle.alg_certificate.proofs.Walkable.{items_quiet}
 use Rattle.alg_certificate.specs.Spelling.{Item, tree, word, semicolon, bytes, spell, spell_all, spell_items, trees_before, numbers, numerals, IsInRange, SortFits, SymbolFits, HeadFits, TreeFits, TreesFit, HasOne, IsComparison, HasSpelling, head_of, items_of, step_bytes}
 use Rattle.alg_certificate_lines.specs.declared.kinds.Kind.{Kind}
 use Rattle.alg_certificate_lines.specs.declared.kinds.Kind.TheVariants as kind

@@ -3,14 +3,15 @@ use Rattle.std.proofs.Common.{◌≡◌, ℕ, Bool, true, false, ◌&&◌, List,
 use Rattle.alg_terms.specs.declared.symbols.Sym.{Sym}
 use Rattle.alg_terms.specs.Tree.{Tree, Trees, Nil, Cons, Lit as literal, Var as variable, App as node}
 use Rattle.alg_expr.specs.declared.ids.ExprId.{ExprId}
-use Rattle.alg_expr.specs.Arena.{Extends, Extends-self, Extends-then}
+use Rattle.alg_expr.specs.Arena.{Extends}
+use Rattle.alg_expr.proofs.ArenaLaws.{Extends-self, Extends-then}
 use Rattle.alg_expr.specs.Ids.{tree_of, trees_at, IsIn}
 use Rattle.alg_law.specs.Declarations.{Declaration}
 use Rattle.alg_certificate.specs.Tokens.{Tok, Blank, Close, Semi, Open, Word, read_token}
 use Rattle.alg_certificate.specs.Lexed.{Lexed, tokens}
-use Rattle.alg_certificate.specs.TokenLaws.{next_some, next_none, tokens_complete}
-use Rattle.alg_certificate.specs.ApartLaws.{Separated}
-use Rattle.alg_certificate.specs.Walkable.{trees_apart, items_quiet}
+use Rattle.alg_certificate.proofs.TokenLaws.{next_some, next_none, tokens_complete}
+use Rattle.alg_certificate.proofs.ApartLaws.{Separated}
+use Rattle.alg_certificate.proofs.Walkable.{trees_apart, items_quiet}
 use Rattle.alg_certificate.specs.Words.{symbol_bytes}
 use Rattle.alg_certificate.specs.Spelling.{Item, tree, word, semicolon, bytes, spell, spell_all, spell_items, TreeFits, TreesFit}
 use Rattle.alg_certificate_lines.specs.Kept.{kept_symbol, kept_sort}

@@ -13,7 +13,7 @@ use Rattle.alg_proof.specs.declared.lines.ComputeHead.TheVariants as head
 use Rattle.alg_certificate.specs.Numbers.{max_number, read_number}
 use Rattle.alg_certificate.specs.Words.{sort_bytes, symbol_bytes, relation_bytes, bridge_bytes, head_bytes}
 use Rattle.alg_certificate.specs.Spelling.{SortFits, SymbolFits, HeadFits}
-use Rattle.alg_certificate.specs.NumberLaws.{number_whole}
+use Rattle.alg_certificate.proofs.NumberLaws.{number_whole}
 use Rattle.alg_certificate_lines.specs.Kept.{kept_number, numbered_sort, kept_sort, numbered_symbol, kept_symbol, named_head, kept_head}
 use Rattle.alg_certificate_lines.specs.Words.{whole_number, small, number_named, small_number, sort_named, symbol_named, head_named, relation_named, bridge_named}
 

@@ -5,8 +5,6 @@ use Rattle.std.proofs.lemmas.Bool.Decides.{nat_tests}
 use Rattle.alg_terms.specs.declared.sorts.Sort.{Sort}
 use Rattle.alg_terms.specs.declared.symbols.Sym.{Sym}
 use Rattle.alg_terms.specs.declared.symbols.Sym.TheVariants as symbol
-use Rattle.alg_terms.specs.declared.symbols.Place.{Place}
-use Rattle.alg_terms.specs.declared.symbols.Place.TheVariants.{Same, OfNat, OfInt}
 use Rattle.alg_terms.specs.Symbols.{places, arguments_fit, is_built_in}
 use Rattle.alg_terms.specs.Tree.{Tree, App, of_list, sort_of_tree}
 use Rattle.alg_expr.specs.declared.ids.ExprId.{ExprId}
@@ -16,16 +14,8 @@ use Rattle.alg_law.specs.declared.marks.Mark.{Mark}
 use Rattle.alg_law.specs.declared.marks.Mark.TheVariants.{Good, NoInstance, BadSort, BadName}
 use Rattle.alg_law.specs.Declarations.{Declaration}
 use Rattle.alg_law.specs.WellSorted.{worse, sort_mark, class_mark, has_classes, built_in_mark, symbol_mark, head_mark}
-use Rattle.alg_proof.specs.Steps.{same_sort, value_sort}
-use Rattle.alg_certificate_lines.specs.Typed.{is_same, is_sorted, sorts, node_over, node_of}
-
-same_next : (p : Place) (ps : List Place) (t : Sort) (ts : List Sort) → is_same p ≡ false → same_sort (p ∷ ps) (t ∷ ts) ≡ same_sort ps ts
-same_next Same ps t ts e = cc
-same_next OfNat ps t ts e = refl
-same_next OfInt ps t ts e = refl
-
-pub same_on : (ts : List Tree) (places ps : List Place) (es left : List ExprId) (p : Place) (e : ExprId) → places ≡ p ∷ ps → left ≡ e ∷ es → is_same p ≡ false → same_sort places (sorts_at ts left) ≡ same_sort ps (sorts_at ts es)
-same_on ts places ps es left p e h l n = ap (λ x. same_sort x (sorts_at ts left)) h ∙ (ap (λ x. same_sort (p ∷ ps) (sorts_at ts x)) l ∙ same_next p ps (sort_of_tree (tree_of ts e)) (sorts_at ts es) n)
+use Rattle.alg_proof.specs.Steps.{value_sort}
+use Rattle.alg_certificate_lines.specs.Typed.{is_sorted, sorts, node_over, node_of}
 
 pub sorts_listed : (ts : List Tree) (es : List ExprId) → sorts (trees_at ts es) ≡ sorts_at ts es
 sorts_listed ts [] = refl

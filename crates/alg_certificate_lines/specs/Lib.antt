@@ -10,6 +10,4 @@ pub mod Steps
 pub mod Heads
 pub mod Kinds
 pub mod Texts
-pub mod HeadLaws
-pub mod ReadBackLaws
-pub mod SpellingLaws
+pub mod Arguments

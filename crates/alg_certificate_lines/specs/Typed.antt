@@ -2,8 +2,6 @@
 use Rattle.std.specs.Prelude.{ℕ, Bool, true, false, List, [], ◌∷◌, Option, Some, None, map, option_map, if◌then◌else◌}
 use Rattle.alg_terms.specs.declared.sorts.Sort.{Sort}
 use Rattle.alg_terms.specs.declared.symbols.Sym.{Sym}
-use Rattle.alg_terms.specs.declared.symbols.Place.{Place}
-use Rattle.alg_terms.specs.declared.symbols.Place.TheVariants.{Same, OfNat, OfInt}
 use Rattle.alg_terms.specs.Tree.{Tree, Trees, Nil, Cons, Lit as literal, Var as variable, App as node, of_list, sort_of_tree}
 use Rattle.alg_law.specs.declared.marks.Mark.{Mark}
 use Rattle.alg_law.specs.declared.marks.Mark.TheVariants.{Good, NoInstance, BadSort, BadName}
@@ -14,11 +12,6 @@ use Rattle.alg_certificate_lines.specs.Known.{variable_sort}
 
 abbrev pub sorts : List Tree → List Sort
 sorts ts = map sort_of_tree ts
-
-abbrev pub is_same : Place → Bool
-is_same Same = true
-is_same OfNat = false
-is_same OfInt = false
 
 -- arities and sorts fit, classes aside
 abbrev pub is_sorted : Mark → Bool

@@ -1,11 +1,8 @@
 ghost use Rattle.std.specs.Prelude.{◌≡◌, ◌&&◌, MatchOption, IfOk, ◌<◌, ◌≤◌, ◌^◌, ◌++◌, ◌∷◌, [], ℕ, List, All, OnOk, Option, Some, length, take, drop};
 ghost use Rattle.alg_terms.specs.Tree.{Tree, Trees};
 ghost use Rattle.alg_certificate.specs.Spelling.{Item, bytes, spell_all, spell_items, TreesFit};
-ghost use Rattle.alg_expr.specs.Applying.{sorts_at};
 ghost use Rattle.alg_expr.specs.Arena.{Extends};
 ghost use Rattle.alg_expr.specs.Ids.{IsIn, tree_of, trees_at};
-ghost use Rattle.alg_proof.specs.Steps.{same_sort, value_sort};
-ghost use Rattle.alg_certificate_lines.specs.Typed.{is_same};
 ghost use Rattle.alg_certificate.specs.Numbers.{max_number};
 ghost use Rattle.alg_certificate.specs.Seen.{seen};
 ghost use Rattle.alg_certificate.specs.Tokens.{Good};
@@ -26,14 +23,9 @@ use crate::known::{are_known, is_good, variable_sort};
 use crate::symbols::symbol_named;
 use crate::words::sort_named;
 use alg_certificate::tokens::{Token, next_token};
-use alg_expr::{Arena, ExprFault, ExprId, Items, Place, Sort, Sym};
+use alg_expr::{Arena, ExprFault, ExprId, Items, Sym};
 use alg_law::{Base, Mark, mark_for_head, mark_for_sort};
-
-fn is_same(place: Place) -> bool
-    ensures { result ≡ is_same place }
-{
-    matches!(place, Place::Same)
-}
+use alg_proof::value_sort;
 
 // The first id, and the rest.
 pub(crate) fn split_ids(ids: &[ExprId]) -> Option<(ExprId, &[ExprId])>
@@ -42,40 +34,6 @@ pub(crate) fn split_ids(ids: &[ExprId]) -> Option<(ExprId, &[ExprId])>
     match ids.split_first() {
         Some((first, rest)) => Some((*first, rest)),
         None => None,
-    }
-}
-
-// The sort of the first argument that has the sort of the value.
-fn first_same(arena: &Arena, places: &[Place], args: &[ExprId]) -> Option<Sort>
-    requires { All (IsIn arena.now) args.now }
-    ensures { result ≡ same_sort places.now (sorts_at arena.now args.now) }
-{
-    let mut left = args;
-    let mut to_come = places;
-    'places: while let Some((place, more)) = to_come.split_first() {
-        let Some((arg, others)) = split_ids(left) else {
-            return None;
-        };
-        if is_same(*place) {
-            return Some(arena.sort_of(arg));
-        }
-        to_come = more;
-        left = others;
-    }
-    None
-}
-
-// The sort of the value of a symbol over these arguments.
-fn value_of(base: &Base, arena: &Arena, sym: Sym, args: &[ExprId]) -> Option<Sort>
-    requires { All (IsIn arena.now) args.now }
-    ensures { result ≡ value_sort base.now sym (sorts_at arena.now args.now) }
-{
-    match sym {
-        Sym::Apply(k) => match base.function(k) {
-            None => None,
-            Some(f) => Some(f.result),
-        },
-        _ => first_same(arena, sym.places(), args),
     }
 }
 
@@ -105,7 +63,7 @@ fn build_node(
     ensures makes { Makes arena.new (node_of base.now sym (trees_at arena.old args.now)) result }
     ensures flag { IfOk result (λ e. classed.new ≡ (classed.old && head_good base.now (tree_of arena.new e))) }
 {
-    let Some(sort) = value_of(base, arena, sym, args) else {
+    let Some(sort) = value_sort(base, arena, sym, args) else {
         return Err(LineFault::BadSort);
     };
     let mark = mark_for_head(base, arena, sym, sort, args);

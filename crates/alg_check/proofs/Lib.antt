@@ -5,3 +5,7 @@ pub mod Saying
 pub mod Standing
 pub mod Counting
 pub mod Meaning
+pub mod EntryLaws
+pub mod GoalLaws
+pub mod MeantLaws
+pub mod WrittenEntries

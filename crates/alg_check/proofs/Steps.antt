@@ -16,7 +16,7 @@ use Rattle.alg_certificate.specs.Spelling.{HasSpelling, step_bytes}
 use Rattle.alg_kernel.specs.Answers.{GivesVerdict}
 use Rattle.alg_kernel.specs.Progress.{Progress, Going, Stopped, after_line, next, outcome}
 use Rattle.alg_kernel.specs.State.{theory_of, progress_of, IsSound, Answers}
-use Rattle.alg_kernel.specs.Growing.{theory_of-extends, progress_of-extends}
+use Rattle.alg_kernel.proofs.Growing.{theory_of-extends, progress_of-extends}
 use Rattle.alg_kernel.specs.declared.kernel.Kernel.{Kernel}
 use Rattle.alg_kernel.specs.declared.answers.Refusal.{Refusal}
 use Rattle.alg_kernel.specs.declared.answers.Refusal.TheVariants as refusal

@@ -40,3 +40,8 @@ pub record AreEntriesOf (ls : List TextLine) (es : List Entry) : Type 0 where
   pub rest : List TextLine
   pub lines : ls ≡ flat_map lines_of es ++ rest
   pub unfinished : All IsNoEnd rest
+
+-- entries that lines are, with a last one that doesn't end
+pub record SomeEntries (ls : List TextLine) : Type 0 where
+  pub entries : List Entry
+  pub are : AreEntriesOf ls entries

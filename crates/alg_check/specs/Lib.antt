@@ -10,7 +10,4 @@ pub mod Written
 pub mod Following
 pub mod Checking
 pub mod Certified
-pub mod GoalLaws
-pub mod WrittenEntries
-pub mod MeantLaws
-pub mod EntryLaws
+pub mod Faults

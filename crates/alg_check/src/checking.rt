@@ -1,11 +1,12 @@
-ghost use Rattle.std.specs.Prelude.{◌≡◌, ◌≢◌, ◌+◌, ◌<◌, ◌^◌, [], map, length, All, IfOk, OnOk, IsErrOf, string_bytes};
-ghost use Rattle.alg_host.specs.Host.{HasRisen, Adds, adds_said};
+ghost use Rattle.std.specs.Prelude.{◌≡◌, ◌+◌, ◌<◌, ◌^◌, [], map, length, All, IfOk, OnOk, string_bytes};
+ghost use Rattle.alg_host.specs.Host.{Adds, adds_said};
 ghost use Rattle.alg_parse.specs.FileTrees.{IsCommandIn};
 ghost use Rattle.alg_proof.specs.LemmaRows.{rows_of};
 ghost use Rattle.alg_certificate.specs.Reader.{coming_of};
 ghost use Rattle.alg_check.specs.Checking.{Checks, SaysOnly};
 ghost use Rattle.alg_check.specs.Entries.{Entry, EntryHasSpelling};
-ghost use Rattle.alg_check.specs.EntryLaws.{SomeEntries};
+ghost use Rattle.alg_check.specs.Entries.{SomeEntries};
+ghost use Rattle.alg_check.specs.Faults.{CountsFaults};
 ghost use Rattle.alg_check.specs.Findings.{finding_of, is_accepted};
 ghost use Rattle.alg_check.specs.Found.{seen_finding, counted};
 ghost use Rattle.alg_check.specs.Goals.{goals_seen};
@@ -94,9 +95,7 @@ fn say_finding<H: Host>(
     requires { tally.old.accepted + tally.old.refused < 2 ^ 63 }
     ensures told { Adds adds_said (finding_text (seen_finding finding.now)) result (H.told host.old) (H.told host.new) }
     ensures tally { OnOk result (tally.new ≡ counted (seen_finding finding.now) tally.old) }
-    ensures kept { result ≢ Err Stop.HostFailed → H.faults host.new ≡ H.faults host.old }
-    ensures failed { IsErrOf result Stop.HostFailed → HasRisen (H.faults host.old) (H.faults host.new) }
-    ensures complaint_faults { H.complaint_faults host.new ≡ H.complaint_faults host.old }
+    ensures faults { CountsFaults (Err Stop.HostFailed) result (H.faults host.old) (H.faults host.new) (H.complaint_faults host.old) (H.complaint_faults host.new) }
 {
     let text = match finding.text(alloc) {
         Ok(text) => text,
@@ -123,9 +122,7 @@ fn check_entry<H: Host>(
     ensures told { (e : Entry) → EntryHasSpelling e → seen_entry entry.now ≡ texts_of e → Adds adds_said (finding_text (finding_of (rows_of lemmas.now) (map (goal_seen file.now) goals.now) before e)) result (H.told host.old) (H.told host.new) }
     ensures tally { (e : Entry) → EntryHasSpelling e → seen_entry entry.now ≡ texts_of e → OnOk result (tally.new ≡ counted (finding_of (rows_of lemmas.now) (map (goal_seen file.now) goals.now) before e) tally.old) }
     ensures count { OnOk result (tally.new.accepted + tally.new.refused ≡ tally.old.accepted + tally.old.refused + 1) }
-    ensures kept { result ≢ Err Stop.HostFailed → H.faults host.new ≡ H.faults host.old }
-    ensures failed { IsErrOf result Stop.HostFailed → HasRisen (H.faults host.old) (H.faults host.new) }
-    ensures complaint_faults { H.complaint_faults host.new ≡ H.complaint_faults host.old }
+    ensures faults { CountsFaults (Err Stop.HostFailed) result (H.faults host.old) (H.faults host.new) (H.complaint_faults host.old) (H.complaint_faults host.new) }
     ensures says { SaysOnly (H.told host.old) (H.told host.new) }
 {
     let finding = find(alloc, lemmas, file, goals, before, entry)?;
@@ -141,9 +138,7 @@ fn say_fault<H: Host>(
     requires { tally.old.accepted + tally.old.refused < 2 ^ 63 }
     ensures told { Adds adds_said (bad_text fault.offset) result (H.told host.old) (H.told host.new) }
     ensures tally { OnOk result (tally.new ≡ record tally.old { refused = tally.old.refused + 1 }) }
-    ensures kept { result ≢ Err Stop.HostFailed → H.faults host.new ≡ H.faults host.old }
-    ensures failed { IsErrOf result Stop.HostFailed → HasRisen (H.faults host.old) (H.faults host.new) }
-    ensures complaint_faults { H.complaint_faults host.new ≡ H.complaint_faults host.old }
+    ensures faults { CountsFaults (Err Stop.HostFailed) result (H.faults host.old) (H.faults host.new) (H.complaint_faults host.old) (H.complaint_faults host.new) }
 {
     let text = match text_of_fault(alloc, fault.offset) {
         Ok(text) => text,
@@ -156,9 +151,7 @@ fn say_fault<H: Host>(
 
 fn say_last<H: Host>(alloc: Global, tally: &Tally, host: &mut H) -> Result<(), Stop>
     ensures told { Adds adds_said (last_text tally.now) result (H.told host.old) (H.told host.new) }
-    ensures kept { result ≢ Err Stop.HostFailed → H.faults host.new ≡ H.faults host.old }
-    ensures failed { IsErrOf result Stop.HostFailed → HasRisen (H.faults host.old) (H.faults host.new) }
-    ensures complaint_faults { H.complaint_faults host.new ≡ H.complaint_faults host.old }
+    ensures faults { CountsFaults (Err Stop.HostFailed) result (H.faults host.old) (H.faults host.new) (H.complaint_faults host.old) (H.complaint_faults host.new) }
 {
     match tally.text(alloc) {
         Ok(text) => say(host, text.as_bytes()),
@@ -178,9 +171,7 @@ fn check_entries<H: Host>(
     requires open { All (IsOpenGoal file.now) goals.now }
     requires small { length reader.old.lines < 2 ^ 63 }
     ensures checks { Checks lines_text (rows_of lemmas.now) (map (goal_seen file.now) goals.now) reader.old (H.told host.old) (H.told host.new) result }
-    ensures kept { result ≢ Err Stop.HostFailed → H.faults host.new ≡ H.faults host.old }
-    ensures failed { IsErrOf result Stop.HostFailed → HasRisen (H.faults host.old) (H.faults host.new) }
-    ensures complaint_faults { H.complaint_faults host.new ≡ H.complaint_faults host.old }
+    ensures faults { CountsFaults (Err Stop.HostFailed) result (H.faults host.old) (H.faults host.new) (H.complaint_faults host.old) (H.complaint_faults host.new) }
     ensures says { SaysOnly (H.told host.old) (H.told host.new) }
 {
     let mut tally = Tally::new();
@@ -215,9 +206,7 @@ pub fn check_certificate<H: Host>(
     requires { All (IsCommandIn file.now.arena file.now.shared) file.now.commands }
     ensures entries { SomeEntries (coming_of bytes.now).lines }
     ensures checks { Checks whole_text (rows_of lemmas.now) (goals_seen file.now) (coming_of bytes.now) (H.told host.old) (H.told host.new) result }
-    ensures kept { result ≢ Err Stop.HostFailed → H.faults host.new ≡ H.faults host.old }
-    ensures failed { IsErrOf result Stop.HostFailed → HasRisen (H.faults host.old) (H.faults host.new) }
-    ensures complaint_faults { H.complaint_faults host.new ≡ H.complaint_faults host.old }
+    ensures faults { CountsFaults (Err Stop.HostFailed) result (H.faults host.old) (H.faults host.new) (H.complaint_faults host.old) (H.complaint_faults host.new) }
     ensures says { SaysOnly (H.told host.old) (H.told host.new) }
 {
     let mut reader = CertReader::new(bytes);

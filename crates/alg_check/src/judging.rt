@@ -77,23 +77,6 @@ fn read_given(arena: &mut Arena, base: &Base, text: &[u8]) -> Result<Option<Stmt
     }
 }
 
-// The statement in this arena.
-fn copied(arena: &mut Arena, from: &Arena, stmt: Stmt) -> Result<Stmt, Memory>
-    requires { IsStatementIn from.now stmt }
-    ensures keeps { Extends arena.old arena.new }
-    ensures here { IfOk result (IsStatementIn arena.new) }
-    ensures same { IfOk result (λ s. statement_of arena.new s ≡ statement_of from.now stmt) }
-{
-    let lhs = arena.import(from, stmt.lhs)?;
-    let rhs = arena.import(from, stmt.rhs)?;
-    Ok(Stmt {
-        rel: stmt.rel,
-        sort: stmt.sort,
-        lhs,
-        rhs,
-    })
-}
-
 // The answer to a proof that takes a statement as given.
 fn judge_from(
     alloc: Global,
@@ -150,6 +133,6 @@ pub(crate) fn judge(
     let local = goal.local.as_slice();
     let base = Base::joined(alloc, &file.shared, goal.prefix, &file.arena, local)?;
     let mut arena = Arena::new(alloc)?;
-    let stmt = copied(&mut arena, &file.arena, goal.stmt)?;
+    let stmt = arena.import_statement(&file.arena, goal.stmt)?;
     judge_over(alloc, lemmas, &base, &mut arena, stmt, entry)
 }

@@ -14,6 +14,3 @@ pub mod tallies;
 pub use checking::check_certificate;
 pub use stops::Stop;
 pub use tallies::Tally;
-
-#[cfg(test)]
-mod tests;

@@ -1,5 +1,6 @@
-ghost use Rattle.std.specs.Prelude.{◌≡◌, OnOk, OnErr, IfErr};
-ghost use Rattle.alg_host.specs.Host.{HasRisen, Adds, adds_said};
+ghost use Rattle.std.specs.Prelude.{◌≡◌, IfErr};
+ghost use Rattle.alg_host.specs.Host.{Adds, adds_said};
+ghost use Rattle.alg_check.specs.Faults.{CountsFaults};
 
 use alg_expr::Memory;
 use alg_host::{Failed, Host};
@@ -25,9 +26,7 @@ impl From<Memory> for Stop {
 
 pub(crate) fn say<H: Host>(host: &mut H, bytes: &[u8]) -> Result<(), Stop>
     ensures told { Adds adds_said bytes.now result (H.told host.old) (H.told host.new) }
-    ensures ok { OnOk result (H.faults host.new ≡ H.faults host.old) }
-    ensures failed { OnErr result (HasRisen (H.faults host.old) (H.faults host.new)) }
-    ensures complaint_faults { H.complaint_faults host.new ≡ H.complaint_faults host.old }
+    ensures faults { CountsFaults (Err Stop.HostFailed) result (H.faults host.old) (H.faults host.new) (H.complaint_faults host.old) (H.complaint_faults host.new) }
     ensures stop { IfErr result (λ e. e ≡ Stop.HostFailed) }
 {
     match host.say(bytes) {

@@ -18,14 +18,14 @@ use Rattle.alg_parse.specs.declared.file_trees.FileTree.{FileTree}
 use Rattle.alg_certificate.specs.Spelling.{step_bytes, given_bytes, goal_bytes}
 use Rattle.alg_certificate.specs.Reader.{TextLine, end_line, Coming, coming_of}
 use Rattle.alg_certificate.specs.Grammar.{header}
-use Rattle.alg_certificate.specs.WrittenLines.{lines_bytes}
+use Rattle.alg_certificate.proofs.WrittenLines.{lines_bytes}
 use Rattle.alg_check.specs.Certified.{Proves, Certify, none_refused}
 use Rattle.alg_check.specs.Entries.{Entry, given_lines, proof_lines, lines_of, AreEntriesOf}
 use Rattle.alg_check.specs.Findings.{findings, tally_of}
 use Rattle.alg_check.specs.Goals.{Goal, goals_in, goals_of}
-use Rattle.alg_check.specs.GoalLaws.{goals_seen-told}
-use Rattle.alg_check.specs.MeantLaws.{valid_meant}
-use Rattle.alg_check.specs.WrittenEntries.{IsWritable, entries_come, entries_are}
+use Rattle.alg_check.proofs.GoalLaws.{goals_seen-told}
+use Rattle.alg_check.proofs.MeantLaws.{valid_meant}
+use Rattle.alg_check.proofs.WrittenEntries.{IsWritable, entries_come, entries_are}
 use Rattle.alg_cli.specs.Verdict.{Verdict, Closed, Failed, verdict_of}
 use Rattle.alg_cli.specs.Report.{Goal as Reported, of_goal, findings_of}
 use Rattle.alg_cli.specs.Certificate.{step_lines, given_line, entry_bytes, theory_for, IsEntry, claim_in, IsEntryOf, AreEntries, IsCertificate}

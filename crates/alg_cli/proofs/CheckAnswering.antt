@@ -15,9 +15,9 @@ use Rattle.alg_words.specs.Jobs.{Check}
 use Rattle.alg_certificate.specs.Reader.{coming_of}
 use Rattle.alg_check.specs.Checking.{Checks, SaysOnly}
 use Rattle.alg_check.specs.Entries.{Entry, AreEntriesOf}
-use Rattle.alg_check.specs.EntryLaws.{SomeEntries}
+use Rattle.alg_check.specs.Entries.{SomeEntries}
 use Rattle.alg_check.specs.Goals.{Goal, goals_of, goals_seen}
-use Rattle.alg_check.specs.GoalLaws.{goals_seen-told}
+use Rattle.alg_check.proofs.GoalLaws.{goals_seen-told}
 use Rattle.alg_check.specs.Text.{whole_text}
 use Rattle.alg_check.specs.declared.tallies.Tally.{Tally}
 use Rattle.alg_check.specs.declared.stops.Stop.{Stop as CheckStop}

@@ -3,9 +3,13 @@ use Rattle.std.proofs.Common.{◌≡◌, List, ◌∷◌, refl, ap, sym, ◌∙�
 use Rattle.std.specs.Prelude.{Result, IfOk, IsTrue, ◌↔◌}
 use Rattle.alg_terms.specs.Tree.{Statement}
 use Rattle.alg_cli.specs.declared.proofs.Proof.{Proof}
-use Rattle.alg_normnum.specs.Values.{answer_to}
+use Rattle.alg_law.specs.declared.combo.Combo.{Combo}
+use Rattle.alg_normnum.specs.Values.{norm_num_answer}
+use Rattle.alg_binders.specs.declared.procedures.Procedure.{Procedure}
+use Rattle.alg_binders.specs.declared.procedures.Procedure.TheVariants.{NormNum, Ring, Ring1, RingNf, Abel, Abel1, AbelNf, Group, Positivity, FieldSimp}
 use Rattle.alg_parse.specs.declared.procedures.Proc.{Proc}
-use Rattle.alg_parse.specs.declared.procedures.Proc.TheVariants.{NormNum, Ring, Ring1, RingNf, Abel, Abel1, AbelNf, Group, Positivity, FieldSimp, LinearCombination}
+use Rattle.alg_parse.specs.declared.procedures.Proc.TheVariants.{Named, LinearCombination}
+use Rattle.alg_parse.specs.Told.{plain}
 use Rattle.alg_cli.specs.Seen.{call_seen, calls_seen}
 use Rattle.alg_cli.specs.declared.entries.FailCause.{FailCause}
 use Rattle.alg_cli.specs.declared.entries.FailCause.TheVariants.{NotBuilt}
@@ -13,11 +17,11 @@ use Rattle.alg_cli.specs.declared.entries.Fate.{Fate}
 use Rattle.alg_cli.specs.Entry.{cause_in, verdict_in}
 use Rattle.alg_cli.specs.Verdict.{Verdict, cause_of_answer, cause_of_call, when_closed, verdict_of}
 
-pub of_norm_num : (p : Proc) (s : Statement) → p ≡ NormNum → cause_of_call (call_seen p) s ≡ cause_of_answer (answer_to s)
+pub of_norm_num : (p : Procedure) (s : Statement) → p ≡ NormNum → cause_of_call (plain p) s ≡ cause_of_answer (norm_num_answer s)
 unfolding cause_of_call
 of_norm_num p s e = rw e refl
 
-pub of_another : (p : Proc) (s : Statement) → (p ≡ NormNum → ⊥) → Some NotBuilt ≡ cause_of_call (call_seen p) s
+pub of_another : (p : Procedure) (s : Statement) → (p ≡ NormNum → ⊥) → Some NotBuilt ≡ cause_of_call (plain p) s
 unfolding cause_of_call
 of_another NormNum s other = absurd (other refl)
 of_another Ring s other = refl
@@ -29,7 +33,14 @@ of_another AbelNf s other = refl
 of_another Group s other = refl
 of_another Positivity s other = refl
 of_another FieldSimp s other = refl
-of_another (LinearCombination c) s other = refl
+
+pub of_combination : (p : Proc) (c : Combo) (s : Statement) → p ≡ LinearCombination c → Some NotBuilt ≡ cause_of_call (call_seen p) s
+unfolding cause_of_call
+of_combination p c s e = rw e refl
+
+pub of_named : {E : Type 0} (p : Proc) (q : Procedure) (s : Statement) (r : Result (Result Proof FailCause) E) → p ≡ Named q → IfOk r (λ x. cause_in x ≡ cause_of_call (plain q) s)
+    → IfOk r (λ x. cause_in x ≡ cause_of_call (call_seen p) s)
+of_named p q s r e h = subst (λ (x : Proc). IfOk r (λ y. cause_in y ≡ cause_of_call (call_seen x) s)) (sym e) h
 
 -- what a test tells
 pub holds : (b : Bool) (P : Type 0) → b ≡ true → (IsTrue b ↔ P) → P
@@ -40,8 +51,8 @@ fails b P e h p =
     let yes : b ≡ true = h.1 p in
     cc
 
-pub called : {E : Type 0} (p : Proc) (s : Statement) (r : Result (Result Proof FailCause) E) → p ≡ NormNum → IfOk r (λ x. cause_in x ≡ cause_of_answer (answer_to s))
-    → IfOk r (λ x. cause_in x ≡ cause_of_call (call_seen p) s)
+pub called : {E : Type 0} (p : Procedure) (s : Statement) (r : Result (Result Proof FailCause) E) → p ≡ NormNum → IfOk r (λ x. cause_in x ≡ cause_of_answer (norm_num_answer s))
+    → IfOk r (λ x. cause_in x ≡ cause_of_call (plain p) s)
 called p s (Ok x) e h = h ∙ sym (of_norm_num p s e)
 called p s (Err f) e h = h
 

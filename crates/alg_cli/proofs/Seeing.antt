@@ -5,7 +5,7 @@ use Rattle.alg_terms.specs.Tree.{Tree, Statement}
 use Rattle.alg_host.specs.Host as host
 use Rattle.alg_law.specs.Declarations.{Declaration}
 use Rattle.alg_parse.specs.declared.procedures.Proc.{Proc}
-use Rattle.alg_parse.specs.declared.procedures.Proc.TheVariants.{NormNum, Ring, Ring1, RingNf, Abel, Abel1, AbelNf, Group, Positivity, FieldSimp, LinearCombination}
+use Rattle.alg_parse.specs.declared.procedures.Proc.TheVariants.{Named, LinearCombination}
 use Rattle.alg_parse.specs.declared.file_trees.Command.{Command}
 use Rattle.alg_parse.specs.declared.file_trees.Command.TheVariants.{Declares, Goal, Fault}
 use Rattle.alg_parse.specs.declared.file_trees.FileTree.{FileTree}
@@ -21,18 +21,8 @@ use Rattle.alg_cli.specs.declared.work.Stop.{Stop}
 
 call_cause : (ts : List Tree) (p : Proc) (c : Call) (s : Statement) → IsCall ts p c → cause_of_call c s ≡ cause_of_call (call_seen p) s
 unfolding cause_of_call
-call_cause ts (LinearCombination c) (combination x) s h = refl
-call_cause ts (LinearCombination c) (plain p) s h = absurd h
-call_cause ts NormNum c s h = rw h refl
-call_cause ts Ring c s h = rw h refl
-call_cause ts Ring1 c s h = rw h refl
-call_cause ts RingNf c s h = rw h refl
-call_cause ts Abel c s h = rw h refl
-call_cause ts Abel1 c s h = rw h refl
-call_cause ts AbelNf c s h = rw h refl
-call_cause ts Group c s h = rw h refl
-call_cause ts Positivity c s h = rw h refl
-call_cause ts FieldSimp c s h = rw h refl
+call_cause ts (LinearCombination p) c s h = rw h.1 refl
+call_cause ts (Named p) c s h = rw h refl
 
 further_same : (ts : List Tree) (ps : List Proc) (cs : List Call) → AreCalls ts ps cs → when_closed 2 cs ≡ when_closed 2 (calls_seen ps)
 further_same ts [] [] h = refl

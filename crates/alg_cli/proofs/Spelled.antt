@@ -10,7 +10,8 @@ use Rattle.alg_proof.specs.Steps.{Theory, Step}
 use Rattle.alg_proof.specs.Valid.{IsValid}
 use Rattle.alg_certificate.specs.Numbers.{max_number}
 use Rattle.alg_certificate.specs.Spelling.{HasOne}
-use Rattle.alg_certificate_lines.specs.SpellingLaws.{HasArgument, HaveArguments, steps_spelled}
+use Rattle.alg_certificate_lines.specs.Arguments.{HasArgument, HaveArguments}
+use Rattle.alg_certificate_lines.proofs.SpellingLaws.{steps_spelled}
 use Rattle.alg_kernel.specs.Claims.{claim_of}
 use Rattle.alg_show.specs.ReadingBack.{IsWritable, AllWritable}
 use Rattle.alg_cli.specs.Certificate.{theory_for}

@@ -9,7 +9,7 @@ use Rattle.alg_parse.specs.FileTrees.{Tells}
 use Rattle.alg_certificate.specs.Reader.{coming_of}
 use Rattle.alg_check.specs.Checking.{SaysOnly}
 use Rattle.alg_check.specs.Entries.{Entry, AreEntriesOf}
-use Rattle.alg_check.specs.EntryLaws.{SomeEntries}
+use Rattle.alg_check.specs.Entries.{SomeEntries}
 use Rattle.alg_check.specs.Findings.{Finding, findings, tally_of}
 use Rattle.alg_check.specs.Goals.{goals_of}
 use Rattle.alg_check.specs.Text.{whole_text}

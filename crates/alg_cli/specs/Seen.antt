@@ -1,11 +1,10 @@
 -- What the report looks at of a file that was read: all but the combinations.
-use Rattle.std.specs.Prelude.{ℕ, List, map}
+use Rattle.std.specs.Prelude.{ℕ, List, [], map}
 use Rattle.alg_terms.specs.Tree.{Tree}
 use Rattle.alg_expr.specs.Ids.{statement_of}
 use Rattle.alg_expr.specs.declared.ids.Stmt.{Stmt}
 use Rattle.alg_law.specs.declared.declarations.Declared.{Declared}
 use Rattle.alg_law.specs.Declarations.{declarations_of}
-use Rattle.alg_combinations.specs.Combined.{hypothesis}
 use Rattle.alg_parse.specs.declared.procedures.Proc.{Proc}
 use Rattle.alg_parse.specs.declared.procedures.Proc.TheVariants as proc
 use Rattle.alg_parse.specs.declared.file_trees.Command.{Command}
@@ -16,17 +15,8 @@ use Rattle.alg_parse.specs.Told.{Told, declares, goal, faulty, Call, plain, comb
 
 -- each combination is taken for the same one
 abbrev pub call_seen : Proc → Call
-call_seen (proc.LinearCombination c) = combination (hypothesis 0)
-call_seen proc.NormNum = plain proc.NormNum
-call_seen proc.Ring = plain proc.Ring
-call_seen proc.Ring1 = plain proc.Ring1
-call_seen proc.RingNf = plain proc.RingNf
-call_seen proc.Abel = plain proc.Abel
-call_seen proc.Abel1 = plain proc.Abel1
-call_seen proc.AbelNf = plain proc.AbelNf
-call_seen proc.Group = plain proc.Group
-call_seen proc.Positivity = plain proc.Positivity
-call_seen proc.FieldSimp = plain proc.FieldSimp
+call_seen (proc.Named p) = plain p
+call_seen (proc.LinearCombination c) = combination []
 
 abbrev pub calls_seen : List Proc → List Call
 calls_seen ps = map call_seen ps

@@ -1,11 +1,12 @@
 -- What a script makes of its goal.
 use Rattle.std.specs.Prelude.{ℕ, ◌+◌, List, [], ◌∷◌, Option, None, Some}
 use Rattle.alg_terms.specs.Tree.{Statement}
-use Rattle.alg_build.specs.declared.outcome.TacFault.TheVariants.{GoalFalse, OutOfRange}
-use Rattle.alg_normnum.specs.Values.{Answer, answer_to}
-use Rattle.alg_normnum.specs.Values as answer
-use Rattle.alg_parse.specs.declared.procedures.Proc.{Proc}
-use Rattle.alg_parse.specs.declared.procedures.Proc.TheVariants.{NormNum, Ring, Ring1, RingNf, Abel, Abel1, AbelNf, Group, Positivity, FieldSimp, LinearCombination}
+use Rattle.alg_binders.specs.declared.procedures.Procedure.{Procedure}
+use Rattle.alg_binders.specs.declared.procedures.Procedure.TheVariants.{NormNum}
+use Rattle.alg_build.specs.Answer.{Answer, Closes, Leaves, Fails}
+use Rattle.alg_build.specs.declared.outcome.TacFault.{TacFault}
+use Rattle.alg_build.specs.declared.outcome.TacFault.TheVariants.{NotThisGoal}
+use Rattle.alg_normnum.specs.Values.{norm_num_answer}
 use Rattle.alg_parse.specs.Told.{Call, plain, combination}
 use Rattle.alg_cli.specs.declared.entries.FailCause.{FailCause}
 use Rattle.alg_cli.specs.declared.entries.FailCause.TheVariants.{NoGoals, Proc as of_procedure, NotBuilt}
@@ -15,26 +16,21 @@ pub data Verdict : Type 0 where
   -- the procedure of this number, from 1, fails
   Failed : (step : ℕ) → FailCause → Verdict
 
--- why norm_num fails, and none where it closes its goal
-abbrev pub cause_of_answer : Answer → Option FailCause
-cause_of_answer answer.Closed = None
-cause_of_answer answer.False = Some (of_procedure GoalFalse)
-cause_of_answer answer.Range = Some (of_procedure OutOfRange)
-cause_of_answer answer.NotThis = Some NotBuilt
+-- a goal that the procedure doesn't take yet is to come
+abbrev pub cause_of_fault : TacFault → FailCause
+cause_of_fault NotThisGoal = NotBuilt
+cause_of_fault f = of_procedure f
 
--- the same of any procedure
-abbrev pub cause_of_procedure : Proc → Statement → Option FailCause
-cause_of_procedure NormNum s = cause_of_answer (answer_to s)
-cause_of_procedure Ring s = Some NotBuilt
-cause_of_procedure Ring1 s = Some NotBuilt
-cause_of_procedure RingNf s = Some NotBuilt
-cause_of_procedure Abel s = Some NotBuilt
-cause_of_procedure Abel1 s = Some NotBuilt
-cause_of_procedure AbelNf s = Some NotBuilt
-cause_of_procedure Group s = Some NotBuilt
-cause_of_procedure Positivity s = Some NotBuilt
-cause_of_procedure FieldSimp s = Some NotBuilt
-cause_of_procedure (LinearCombination c) s = Some NotBuilt
+-- why a procedure fails, and none where it doesn't
+abbrev pub cause_of_answer : Answer → Option FailCause
+cause_of_answer Closes = None
+cause_of_answer (Leaves s) = None
+cause_of_answer (Fails f) = Some (cause_of_fault f)
+
+-- the same by the procedure; only norm_num is built
+abbrev pub cause_of_procedure : Procedure → Statement → Option FailCause
+cause_of_procedure NormNum s = cause_of_answer (norm_num_answer s)
+cause_of_procedure _ s = Some NotBuilt
 
 unfoldable pub cause_of_call : Call → Statement → Option FailCause
 cause_of_call (plain p) s = cause_of_procedure p s

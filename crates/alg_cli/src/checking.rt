@@ -1,5 +1,5 @@
-ghost use Rattle.std.specs.Prelude.{◌≡◌, ◌≢◌, ◌≤◌, ◌^◌, ◌⊎◌, length, IsErrOf};
-ghost use Rattle.alg_host.specs.Host.{HasRisen};
+ghost use Rattle.std.specs.Prelude.{◌≡◌, ◌≢◌, ◌≤◌, ◌^◌, ◌⊎◌, length};
+ghost use Rattle.alg_check.specs.Faults.{CountsFaults};
 ghost use Rattle.alg_words.specs.Jobs.{Check};
 ghost use Rattle.alg_cli.specs.Checked.{DidCheck};
 ghost use Rattle.alg_cli.specs.Run.{Works, Answers};
@@ -25,9 +25,7 @@ fn check_text<H: Host>(
 ) -> Result<bool, Stop>
     requires { length text.now ≤ 2 ^ 24 }
     ensures done { DidCheck text.now certificate.now (H.told host.old) (H.told host.new) result ⊎ ((result ≡ Err Stop.Memory) × (H.told host.new ≡ H.told host.old)) }
-    ensures kept { result ≢ Err Stop.HostFailed → H.faults host.new ≡ H.faults host.old }
-    ensures failed { IsErrOf result Stop.HostFailed → HasRisen (H.faults host.old) (H.faults host.new) }
-    ensures complaint_faults { H.complaint_faults host.new ≡ H.complaint_faults host.old }
+    ensures faults { CountsFaults (Err Stop.HostFailed) result (H.faults host.old) (H.faults host.new) (H.complaint_faults host.old) (H.complaint_faults host.new) }
 {
     let lemmas = match library(alloc) {
         Ok(lemmas) => lemmas,
@@ -48,9 +46,7 @@ fn check_text<H: Host>(
 pub(crate) fn check<H: Host>(alloc: Global, file: &str, cert: &str, host: &mut H) -> Ending
     ensures answers { Works (H.told host.old) (H.told host.new) (Answers (Check file.now cert.now) result) }
     ensures no_usage { result ≢ Ending.Usage }
-    ensures kept { result ≢ Ending.HostFailed → H.faults host.new ≡ H.faults host.old }
-    ensures failed { result ≡ Ending.HostFailed → HasRisen (H.faults host.old) (H.faults host.new) }
-    ensures complaint_faults { H.complaint_faults host.new ≡ H.complaint_faults host.old }
+    ensures faults { CountsFaults Ending.HostFailed result (H.faults host.old) (H.faults host.new) (H.complaint_faults host.old) (H.complaint_faults host.new) }
 {
     let bytes = match host.load(alloc, file, MOST_BYTES) {
         Ok(bytes) => bytes,

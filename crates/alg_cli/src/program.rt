@@ -1,5 +1,6 @@
 ghost use Rattle.std.specs.Prelude.{◌≡◌, ◌≢◌, ◌↔◌, map, string_bytes, IfSome};
 ghost use Rattle.alg_host.specs.Host.{HasRisen};
+ghost use Rattle.alg_check.specs.Faults.{CountsFaults};
 ghost use Rattle.alg_words.specs.Words.{text_in};
 ghost use Rattle.alg_words.specs.Jobs.{job_of, Prove};
 ghost use Rattle.alg_cli.specs.Complaining.{Complaint};
@@ -20,9 +21,7 @@ const MOST_BYTES: u64 = 1 << 24;
 fn prove<H: Host>(alloc: Global, file: &str, cert: Option<&str>, host: &mut H) -> Ending
     ensures answers { Works (H.told host.old) (H.told host.new) (Answers (Prove file.now (text_in cert.entry)) result) }
     ensures no_usage { result ≢ Ending.Usage }
-    ensures kept { result ≢ Ending.HostFailed → H.faults host.new ≡ H.faults host.old }
-    ensures failed { result ≡ Ending.HostFailed → HasRisen (H.faults host.old) (H.faults host.new) }
-    ensures complaint_faults { H.complaint_faults host.new ≡ H.complaint_faults host.old }
+    ensures faults { CountsFaults Ending.HostFailed result (H.faults host.old) (H.faults host.new) (H.complaint_faults host.old) (H.complaint_faults host.new) }
 {
     let bytes = match host.load(alloc, file, MOST_BYTES) {
         Ok(bytes) => bytes,
@@ -45,9 +44,7 @@ fn prove<H: Host>(alloc: Global, file: &str, cert: Option<&str>, host: &mut H) -
 fn work<H: Host>(alloc: Global, words: &[String], host: &mut H) -> Ending
     ensures answers { Works (H.told host.old) (H.told host.new) (Answers (job_of (map (λ w. string_bytes w) words.now)) result) }
     ensures usage { result ≢ Ending.Memory → (result ≡ Ending.Usage ↔ AsksNothing (job_of (map (λ w. string_bytes w) words.now))) }
-    ensures kept { result ≢ Ending.HostFailed → H.faults host.new ≡ H.faults host.old }
-    ensures failed { result ≡ Ending.HostFailed → HasRisen (H.faults host.old) (H.faults host.new) }
-    ensures complaint_faults { H.complaint_faults host.new ≡ H.complaint_faults host.old }
+    ensures faults { CountsFaults Ending.HostFailed result (H.faults host.old) (H.faults host.new) (H.complaint_faults host.old) (H.complaint_faults host.new) }
 {
     match read_words(alloc, words) {
         Ok(Job::Usage) => Ending::Usage,

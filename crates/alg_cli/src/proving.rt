@@ -2,7 +2,11 @@ ghost use Rattle.std.specs.Prelude.{◌≡◌, ◌≤◌, ◌++◌, ℕ, length,
 ghost use Rattle.alg_terms.specs.Tree.{Statement};
 ghost use Rattle.alg_expr.specs.Ids.{IsStatementIn, statement_of};
 ghost use Rattle.alg_law.specs.Declarations.{Declaration, declarations_of};
-ghost use Rattle.alg_normnum.specs.Values.{answer_to};
+ghost use Rattle.alg_law.specs.WellSorted.{IsStatement};
+ghost use Rattle.alg_build.specs.Answer.{Answer, FailsBy};
+ghost use Rattle.alg_build.specs.Book.{Concludes};
+ghost use Rattle.alg_parse.specs.Told.{plain};
+ghost use Rattle.alg_normnum.specs.Values.{norm_num_answer};
 ghost use Rattle.alg_proof.specs.Causes.{line_at};
 ghost use Rattle.alg_proof.specs.LemmaRows.{rows_of};
 ghost use Rattle.alg_proof.specs.Lines.{steps_of, IsLineIn};
@@ -10,7 +14,7 @@ ghost use Rattle.alg_lemma.specs.Lemmas.{lemma_table};
 ghost use Rattle.alg_kernel.specs.Claims.{Claim};
 ghost use Rattle.alg_parse.specs.FileTrees.{IsGoalIn};
 ghost use Rattle.alg_show.specs.ReadingBack.{AreDeclarable};
-ghost use Rattle.alg_certificate_lines.specs.SpellingLaws.{HaveArguments};
+ghost use Rattle.alg_certificate_lines.specs.Arguments.{HaveArguments};
 ghost use Rattle.alg_cli.specs.Seen.{call_seen, calls_seen, goal_seen};
 ghost use Rattle.alg_cli.specs.Verdict.{cause_of_answer, cause_of_call, when_closed, verdict_of};
 ghost use Rattle.alg_cli.specs.Certificate.{claim_in, theory_for, entry_bytes};
@@ -23,7 +27,7 @@ use alg_expr::{Arena, Memory, Stmt};
 use alg_kernel::{Proved, Refusal};
 use alg_law::{Base, Declared};
 use alg_normnum::norm_num;
-use alg_parse::{FileTree, Proc};
+use alg_parse::{FileTree, Proc, Procedure};
 use alg_proof::{Lemmas, Line};
 use std::alloc::Global;
 use std::rc::Rc;
@@ -54,8 +58,7 @@ fn check(
     number: Option<u128>,
 ) -> Result<Proof, Memory>
     requires here { IsStatementIn cx.trees goal }
-    requires line_here { line ≤ length cx.done }
-    requires line_is { line_at cx.done line ≡ Some (statement_of cx.trees goal) }
+    requires concludes { Concludes cx line (statement_of cx.trees goal) }
     requires theory { cx.theory ≡ theory_for (claims cx.theory.declarations (statement_of cx.trees goal)) }
     requires arguments { HaveArguments cx.theory.declarations }
     requires number { MayNumber number }
@@ -69,6 +72,7 @@ fn check(
         lines,
         given: _,
     } = cx.into_parts();
+    // the clauses of `len` keep the numbers of hypotheses and lines within those of a certificate
     let _declarations = base.len();
     let _lines = lines.len();
     let entry = entry_for(alloc, number, &arena, &lines)?;
@@ -76,6 +80,24 @@ fn check(
         Ok(proved) => Ok(Proof { proved, entry }),
         Err(Refusal::Memory) => Err(Memory),
         Err(_) => unreachable!(),
+    }
+}
+
+// what becomes of a goal at a procedure that has this fault
+fn failed(fault: TacFault) -> Result<Result<Proof, FailCause>, Memory>
+    ensures cause { (a : Answer) → FailsBy fault a → IfOk result (λ r. cause_in r ≡ cause_of_answer a) }
+    ensures made { (number : Option ℕ) → (c : Claim) → IfOk result (IsMade number c) }
+{
+    match fault {
+        TacFault::NotThisGoal => Ok(Err(FailCause::NotBuilt)),
+        TacFault::WrongStructure => Ok(Err(FailCause::Proc(TacFault::WrongStructure))),
+        TacFault::OutOfRange => Ok(Err(FailCause::Proc(TacFault::OutOfRange))),
+        TacFault::TooLarge => Ok(Err(FailCause::Proc(TacFault::TooLarge))),
+        TacFault::SidesDiffer => Ok(Err(FailCause::Proc(TacFault::SidesDiffer))),
+        TacFault::NoChange => Ok(Err(FailCause::Proc(TacFault::NoChange))),
+        TacFault::GoalFalse => Ok(Err(FailCause::Proc(TacFault::GoalFalse))),
+        TacFault::SignUnknown => Ok(Err(FailCause::Proc(TacFault::SignUnknown))),
+        TacFault::Memory => Err(Memory),
     }
 }
 
@@ -87,10 +109,11 @@ fn close_by_norm_num(
     number: Option<u128>,
 ) -> Result<Result<Proof, FailCause>, Memory>
     requires here { IsStatementIn cx.trees goal }
+    requires sorted { IsStatement cx.theory.declarations (statement_of cx.trees goal) }
     requires theory { cx.theory ≡ theory_for (claims cx.theory.declarations (statement_of cx.trees goal)) }
     requires arguments { HaveArguments cx.theory.declarations }
     requires number { MayNumber number }
-    ensures cause { IfOk result (λ r. cause_in r ≡ cause_of_answer (answer_to (statement_of cx.trees goal))) }
+    ensures cause { IfOk result (λ r. cause_in r ≡ cause_of_answer (norm_num_answer (statement_of cx.trees goal))) }
     ensures made { IfOk result (IsMade number (claims cx.theory.declarations (statement_of cx.trees goal))) }
 {
     match norm_num(&mut cx, goal) {
@@ -99,18 +122,35 @@ fn close_by_norm_num(
             Ok(Ok(proof))
         }
         Ok(Outcome::Left { .. }) => unreachable!(),
-        Err(TacFault::Memory) => Err(Memory),
-        Err(TacFault::NotThisGoal) => Ok(Err(FailCause::NotBuilt)),
-        Err(TacFault::OutOfRange) => Ok(Err(FailCause::Proc(TacFault::OutOfRange))),
-        Err(TacFault::GoalFalse) => Ok(Err(FailCause::Proc(TacFault::GoalFalse))),
-        Err(_) => unreachable!(),
+        Err(fault) => failed(fault),
     }
 }
 
-fn is_norm_num(procedure: &Proc) -> bool
-    ensures { IsTrue result ↔ (procedure.now ≡ Proc.NormNum) }
+fn is_norm_num(procedure: Procedure) -> bool
+    ensures { IsTrue result ↔ (procedure ≡ Procedure.NormNum) }
 {
-    matches!(procedure, Proc::NormNum)
+    matches!(procedure, Procedure::NormNum)
+}
+
+fn call_named(
+    alloc: Global,
+    cx: Builder,
+    goal: Stmt,
+    procedure: Procedure,
+    number: Option<u128>,
+) -> Result<Result<Proof, FailCause>, Memory>
+    requires here { IsStatementIn cx.trees goal }
+    requires sorted { IsStatement cx.theory.declarations (statement_of cx.trees goal) }
+    requires theory { cx.theory ≡ theory_for (claims cx.theory.declarations (statement_of cx.trees goal)) }
+    requires arguments { HaveArguments cx.theory.declarations }
+    requires number { MayNumber number }
+    ensures cause { IfOk result (λ r. cause_in r ≡ cause_of_call (plain procedure) (statement_of cx.trees goal)) }
+    ensures made { IfOk result (IsMade number (claims cx.theory.declarations (statement_of cx.trees goal))) }
+{
+    if is_norm_num(procedure) {
+        return close_by_norm_num(alloc, cx, goal, number);
+    }
+    Ok(Err(FailCause::NotBuilt))
 }
 
 // What a procedure makes of a goal that isn't closed.
@@ -122,16 +162,17 @@ fn call(
     number: Option<u128>,
 ) -> Result<Result<Proof, FailCause>, Memory>
     requires here { IsStatementIn cx.trees goal }
+    requires sorted { IsStatement cx.theory.declarations (statement_of cx.trees goal) }
     requires theory { cx.theory ≡ theory_for (claims cx.theory.declarations (statement_of cx.trees goal)) }
     requires arguments { HaveArguments cx.theory.declarations }
     requires number { MayNumber number }
     ensures cause { IfOk result (λ r. cause_in r ≡ cause_of_call (call_seen procedure.now) (statement_of cx.trees goal)) }
     ensures made { IfOk result (IsMade number (claims cx.theory.declarations (statement_of cx.trees goal))) }
 {
-    if is_norm_num(procedure) {
-        return close_by_norm_num(alloc, cx, goal, number);
+    match procedure {
+        Proc::Named(named) => call_named(alloc, cx, goal, *named, number),
+        Proc::LinearCombination(_) => Ok(Err(FailCause::NotBuilt)),
     }
-    Ok(Err(FailCause::NotBuilt))
 }
 
 // what becomes of a goal that the first procedure closed
@@ -157,6 +198,7 @@ fn run_script(
     number: Option<u128>,
 ) -> Result<Fate, Memory>
     requires here { IsStatementIn cx.trees goal }
+    requires sorted { IsStatement cx.theory.declarations (statement_of cx.trees goal) }
     requires theory { cx.theory ≡ theory_for (claims cx.theory.declarations (statement_of cx.trees goal)) }
     requires arguments { HaveArguments cx.theory.declarations }
     requires number { MayNumber number }

@@ -1,7 +1,6 @@
 mod certificates;
 mod complaints;
 mod failures;
-mod reports;
 
 use crate::{Extensions, Status, run};
 use alg_host::MemoryHost;
@@ -26,19 +25,4 @@ fn run_line(alloc: Global, line: &str, host: &mut MemoryHost) -> Result<Status, 
         words.push(String::from_str(alloc, word)?)?;
     }
     Ok(run(alloc, &words, host, &Extensions {}))
-}
-
-#[test]
-fn codes(rt: HostRuntime) {
-    let rows = [
-        (Status::Done { all_closed: true }, 0),
-        (Status::Done { all_closed: false }, 1),
-        (Status::Usage, 2),
-        (Status::HostFailed, 3),
-        (Status::Memory, 4),
-        (Status::BadInput, 5),
-    ];
-    for (status, code) in rows {
-        assert_eq!(rt; status.code(), code);
-    }
 }

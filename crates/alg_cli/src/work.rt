@@ -1,7 +1,7 @@
-ghost use Rattle.std.specs.Prelude.{◌≡◌, ◌≢◌, ◌≤◌, ◌<◌, ◌^◌, ◌↔◌, ◌++◌, [], ◌∷◌, length, All, is_some, IfOk, OnOk, OnErr, IsErrOf, IfErr, IsTrue};
+ghost use Rattle.std.specs.Prelude.{◌≡◌, ◌≤◌, ◌<◌, ◌^◌, ◌↔◌, ◌++◌, [], ◌∷◌, length, All, is_some, IfOk, OnOk, IfErr, IsTrue};
 ghost use Rattle.alg_proof.specs.LemmaRows.{rows_of};
 ghost use Rattle.alg_lemma.specs.Lemmas.{lemma_table};
-ghost use Rattle.alg_host.specs.Host.{HasRisen};
+ghost use Rattle.alg_check.specs.Faults.{CountsFaults};
 ghost use Rattle.alg_words.specs.Words.{text_in};
 ghost use Rattle.alg_parse.specs.FileTrees.{IsCommandIn};
 ghost use Rattle.alg_goals.specs.Goals.{IsDeclarableIn};
@@ -33,10 +33,8 @@ pub(crate) enum Stop {
 
 fn say<H: Host>(host: &mut H, bytes: &[u8]) -> Result<(), Stop>
     ensures told { Did (H.told host.old) (H.told host.new) (Says bytes.now ∷ []) result }
-    ensures ok { OnOk result (H.faults host.new ≡ H.faults host.old) }
-    ensures failed { OnErr result (HasRisen (H.faults host.old) (H.faults host.new)) }
+    ensures faults { CountsFaults (Err Stop.HostFailed) result (H.faults host.old) (H.faults host.new) (H.complaint_faults host.old) (H.complaint_faults host.new) }
     ensures stop { IfErr result (λ e. e ≡ Stop.HostFailed) }
-    ensures complaint_faults { H.complaint_faults host.new ≡ H.complaint_faults host.old }
     ensures made { H.made host.new ≡ H.made host.old }
 {
     match host.say(bytes) {
@@ -48,10 +46,8 @@ fn say<H: Host>(host: &mut H, bytes: &[u8]) -> Result<(), Stop>
 fn append<H: Host>(host: &mut H, bytes: &[u8]) -> Result<(), Stop>
     requires { IsTrue (H.made host.old) }
     ensures told { Did (H.told host.old) (H.told host.new) (Appends bytes.now ∷ []) result }
-    ensures ok { OnOk result (H.faults host.new ≡ H.faults host.old) }
-    ensures failed { OnErr result (HasRisen (H.faults host.old) (H.faults host.new)) }
+    ensures faults { CountsFaults (Err Stop.HostFailed) result (H.faults host.old) (H.faults host.new) (H.complaint_faults host.old) (H.complaint_faults host.new) }
     ensures stop { IfErr result (λ e. e ≡ Stop.HostFailed) }
-    ensures complaint_faults { H.complaint_faults host.new ≡ H.complaint_faults host.old }
     ensures made { H.made host.new ≡ H.made host.old }
 {
     match host.append(bytes) {
@@ -63,9 +59,7 @@ fn append<H: Host>(host: &mut H, bytes: &[u8]) -> Result<(), Stop>
 fn create<H: Host>(alloc: Global, path: &str, host: &mut H) -> Result<(), Stop>
     ensures told { Did (H.told host.old) (H.told host.new) (Starts path.now ∷ []) result }
     ensures made { OnOk result (IsTrue (H.made host.new)) }
-    ensures kept { result ≢ Err Stop.HostFailed → H.faults host.new ≡ H.faults host.old }
-    ensures failed { IsErrOf result Stop.HostFailed → HasRisen (H.faults host.old) (H.faults host.new) }
-    ensures complaint_faults { H.complaint_faults host.new ≡ H.complaint_faults host.old }
+    ensures faults { CountsFaults (Err Stop.HostFailed) result (H.faults host.old) (H.faults host.new) (H.complaint_faults host.old) (H.complaint_faults host.new) }
 {
     match host.create(alloc, path) {
         Ok(()) => Ok(()),
@@ -92,9 +86,7 @@ fn certify<H: Host>(number: Option<u128>, proof: &Proof, host: &mut H) -> Result
     requires entry { IsEntryFor number proof.now.proved proof.now.entry }
     requires made { MayAppend number (H.made host.old) }
     ensures told { Did (H.told host.old) (H.told host.new) (certifies number proof.now.proved) result }
-    ensures kept { result ≢ Err Stop.HostFailed → H.faults host.new ≡ H.faults host.old }
-    ensures failed { IsErrOf result Stop.HostFailed → HasRisen (H.faults host.old) (H.faults host.new) }
-    ensures complaint_faults { H.complaint_faults host.new ≡ H.complaint_faults host.old }
+    ensures faults { CountsFaults (Err Stop.HostFailed) result (H.faults host.old) (H.faults host.new) (H.complaint_faults host.old) (H.complaint_faults host.new) }
     ensures made { H.made host.new ≡ H.made host.old }
 {
     match number {
@@ -115,9 +107,7 @@ fn do_proof<H: Host>(
     requires entry { IsEntryFor number proof.proved proof.entry }
     requires made { MayAppend number (H.made host.old) }
     ensures told { Did (H.told host.old) (H.told host.new) (events_of_proof number proof) result }
-    ensures kept { result ≢ Err Stop.HostFailed → H.faults host.new ≡ H.faults host.old }
-    ensures failed { IsErrOf result Stop.HostFailed → HasRisen (H.faults host.old) (H.faults host.new) }
-    ensures complaint_faults { H.complaint_faults host.new ≡ H.complaint_faults host.old }
+    ensures faults { CountsFaults (Err Stop.HostFailed) result (H.faults host.old) (H.faults host.new) (H.complaint_faults host.old) (H.complaint_faults host.new) }
     ensures made { H.made host.new ≡ H.made host.old }
 {
     certify(number, &proof, host)?;
@@ -133,9 +123,7 @@ fn do_fate<H: Host>(
     requires entry { HasEntry number fate }
     requires made { MayAppend number (H.made host.old) }
     ensures told { Did (H.told host.old) (H.told host.new) (events_of_fate number fate) result }
-    ensures kept { result ≢ Err Stop.HostFailed → H.faults host.new ≡ H.faults host.old }
-    ensures failed { IsErrOf result Stop.HostFailed → HasRisen (H.faults host.old) (H.faults host.new) }
-    ensures complaint_faults { H.complaint_faults host.new ≡ H.complaint_faults host.old }
+    ensures faults { CountsFaults (Err Stop.HostFailed) result (H.faults host.old) (H.faults host.new) (H.complaint_faults host.old) (H.complaint_faults host.new) }
     ensures made { H.made host.new ≡ H.made host.old }
 {
     match fate {
@@ -158,9 +146,7 @@ fn do_goal<H: Host>(
     requires made { MayAppend number (H.made host.old) }
     ensures told { Did (H.told host.old) (H.told host.new) (events_of_fate number fate ++ Says (verdict_text label.now (verdict_in fate)) ∷ []) result }
     ensures tally { OnOk result (tally.new ≡ with_verdict tally.old (verdict_in fate)) }
-    ensures kept { result ≢ Err Stop.HostFailed → H.faults host.new ≡ H.faults host.old }
-    ensures failed { IsErrOf result Stop.HostFailed → HasRisen (H.faults host.old) (H.faults host.new) }
-    ensures complaint_faults { H.complaint_faults host.new ≡ H.complaint_faults host.old }
+    ensures faults { CountsFaults (Err Stop.HostFailed) result (H.faults host.old) (H.faults host.new) (H.complaint_faults host.old) (H.complaint_faults host.new) }
     ensures made { H.made host.new ≡ H.made host.old }
 {
     let text = match fate.text(alloc, label) {
@@ -182,9 +168,7 @@ fn say_fault<H: Host>(
     requires { total_of tally.old < 2 ^ 63 }
     ensures told { Did (H.told host.old) (H.told host.new) (Says (error_text line cause) ∷ []) result }
     ensures tally { OnOk result (tally.new ≡ with_error tally.old) }
-    ensures kept { result ≢ Err Stop.HostFailed → H.faults host.new ≡ H.faults host.old }
-    ensures failed { IsErrOf result Stop.HostFailed → HasRisen (H.faults host.old) (H.faults host.new) }
-    ensures complaint_faults { H.complaint_faults host.new ≡ H.complaint_faults host.old }
+    ensures faults { CountsFaults (Err Stop.HostFailed) result (H.faults host.old) (H.faults host.new) (H.complaint_faults host.old) (H.complaint_faults host.new) }
     ensures made { H.made host.new ≡ H.made host.old }
 {
     let text = match text_of_error(alloc, line, cause) {
@@ -198,9 +182,7 @@ fn say_fault<H: Host>(
 
 fn say_last<H: Host>(alloc: Global, tally: &Tally, host: &mut H) -> Result<(), Stop>
     ensures told { Did (H.told host.old) (H.told host.new) (Says (tally_text tally.now) ∷ []) result }
-    ensures kept { result ≢ Err Stop.HostFailed → H.faults host.new ≡ H.faults host.old }
-    ensures failed { IsErrOf result Stop.HostFailed → HasRisen (H.faults host.old) (H.faults host.new) }
-    ensures complaint_faults { H.complaint_faults host.new ≡ H.complaint_faults host.old }
+    ensures faults { CountsFaults (Err Stop.HostFailed) result (H.faults host.old) (H.faults host.new) (H.complaint_faults host.old) (H.complaint_faults host.new) }
 {
     match tally.text(alloc) {
         Ok(text) => say(host, text.as_bytes()),
@@ -238,9 +220,7 @@ fn do_command<H: Host>(
     requires made { IsTrue certified → IsTrue (H.made host.old) }
     ensures told { Did (H.told host.old) (H.told host.new) (events_from certified file.now.shared (next_goal tally.old) (findings_at (told_seen file.now.arena command.now))) result }
     ensures tally { OnOk result (tally.new ≡ plus tally.old (tally_of (findings_at (told_seen file.now.arena command.now)))) }
-    ensures kept { result ≢ Err Stop.HostFailed → H.faults host.new ≡ H.faults host.old }
-    ensures failed { IsErrOf result Stop.HostFailed → HasRisen (H.faults host.old) (H.faults host.new) }
-    ensures complaint_faults { H.complaint_faults host.new ≡ H.complaint_faults host.old }
+    ensures faults { CountsFaults (Err Stop.HostFailed) result (H.faults host.old) (H.faults host.new) (H.complaint_faults host.old) (H.complaint_faults host.new) }
     ensures made { H.made host.new ≡ H.made host.old }
 {
     match command {
@@ -286,9 +266,7 @@ fn do_commands<H: Host>(
     requires made { IsTrue certified → IsTrue (H.made host.old) }
     ensures told { Did (H.told host.old) (H.told host.new) (events_from certified file.now.shared 1 (findings_of (seen_of file.now))) result }
     ensures tally { IfOk result (λ tally. tally ≡ tally_of (findings_of (seen_of file.now))) }
-    ensures kept { result ≢ Err Stop.HostFailed → H.faults host.new ≡ H.faults host.old }
-    ensures failed { IsErrOf result Stop.HostFailed → HasRisen (H.faults host.old) (H.faults host.new) }
-    ensures complaint_faults { H.complaint_faults host.new ≡ H.complaint_faults host.old }
+    ensures faults { CountsFaults (Err Stop.HostFailed) result (H.faults host.old) (H.faults host.new) (H.complaint_faults host.old) (H.complaint_faults host.new) }
 {
     let mut tally = Tally::new();
     let commands = file.commands.as_slice();
@@ -301,9 +279,7 @@ fn do_commands<H: Host>(
 fn start_file<H: Host>(alloc: Global, path: &str, host: &mut H) -> Result<(), Stop>
     ensures told { Did (H.told host.old) (H.told host.new) (Starts path.now ∷ Appends heading ∷ []) result }
     ensures made { OnOk result (IsTrue (H.made host.new)) }
-    ensures kept { result ≢ Err Stop.HostFailed → H.faults host.new ≡ H.faults host.old }
-    ensures failed { IsErrOf result Stop.HostFailed → HasRisen (H.faults host.old) (H.faults host.new) }
-    ensures complaint_faults { H.complaint_faults host.new ≡ H.complaint_faults host.old }
+    ensures faults { CountsFaults (Err Stop.HostFailed) result (H.faults host.old) (H.faults host.new) (H.complaint_faults host.old) (H.complaint_faults host.new) }
 {
     create(alloc, path, host)?;
     append(host, b"algebra-cert 1\n")
@@ -313,9 +289,7 @@ fn start_file<H: Host>(alloc: Global, path: &str, host: &mut H) -> Result<(), St
 fn start<H: Host>(alloc: Global, cert: Option<&str>, host: &mut H) -> Result<(), Stop>
     ensures told { Did (H.told host.old) (H.told host.new) (start_of (text_in cert.entry)) result }
     ensures made { OnOk result (IsTrue (is_some cert.entry) → IsTrue (H.made host.new)) }
-    ensures kept { result ≢ Err Stop.HostFailed → H.faults host.new ≡ H.faults host.old }
-    ensures failed { IsErrOf result Stop.HostFailed → HasRisen (H.faults host.old) (H.faults host.new) }
-    ensures complaint_faults { H.complaint_faults host.new ≡ H.complaint_faults host.old }
+    ensures faults { CountsFaults (Err Stop.HostFailed) result (H.faults host.old) (H.faults host.new) (H.complaint_faults host.old) (H.complaint_faults host.new) }
 {
     match cert {
         Some(path) => start_file(alloc, path, host),
@@ -336,9 +310,7 @@ fn do_file<H: Host>(
     requires lemmas { rows_of lemmas.now.value ≡ lemma_table }
     ensures told { Did (H.told host.old) (H.told host.new) (plan_of (text_in cert.entry) file.now.shared (seen_of file.now)) result }
     ensures all_closed { IfOk result (λ all. IsTrue all ↔ IsAllClosed (seen_of file.now)) }
-    ensures kept { result ≢ Err Stop.HostFailed → H.faults host.new ≡ H.faults host.old }
-    ensures failed { IsErrOf result Stop.HostFailed → HasRisen (H.faults host.old) (H.faults host.new) }
-    ensures complaint_faults { H.complaint_faults host.new ≡ H.complaint_faults host.old }
+    ensures faults { CountsFaults (Err Stop.HostFailed) result (H.faults host.old) (H.faults host.new) (H.complaint_faults host.old) (H.complaint_faults host.new) }
 {
     start(alloc, cert, host)?;
     let tally = do_commands(alloc, lemmas, file, cert.is_some(), host)?;
@@ -364,9 +336,7 @@ pub(crate) fn do_text<H: Host>(
 ) -> Result<bool, Stop>
     requires { length text.now ≤ 2 ^ 24 }
     ensures done { DidText (text_in cert.entry) text.now (H.told host.old) (H.told host.new) result }
-    ensures kept { result ≢ Err Stop.HostFailed → H.faults host.new ≡ H.faults host.old }
-    ensures failed { IsErrOf result Stop.HostFailed → HasRisen (H.faults host.old) (H.faults host.new) }
-    ensures complaint_faults { H.complaint_faults host.new ≡ H.complaint_faults host.old }
+    ensures faults { CountsFaults (Err Stop.HostFailed) result (H.faults host.old) (H.faults host.new) (H.complaint_faults host.old) (H.complaint_faults host.new) }
 {
     let lemmas = match shared_library(alloc) {
         Ok(lemmas) => lemmas,

@@ -1,105 +1,90 @@
--- Combinations as the arena grows, and the jobs that build them.
-use Rattle.std.proofs.Common.{◌≡◌, ℕ, refl, sym, ap, ◌∙◌, subst, List, [], ◌∷◌, ◌++◌, append_assoc, reverse, Option, Some, None}
-use Rattle.std.proofs.lemmas.List.{reverse-append}
+-- The parts of a combination as the arena grows, and the jobs that are left.
+use Rattle.std.proofs.Common.{◌≡◌, ℕ, refl, sym, ap, ◌∙◌, subst, List, [], ◌∷◌, ◌++◌, append_assoc, All, get_or, reverse, Option, Some, None}
+use Rattle.std.proofs.lemmas.List.{reverse-append, map-append}
+use Rattle.std.proofs.lemmas.List.Elements.{All-head, All-tail, All-push}
 use Rattle.alg_terms.specs.declared.sorts.Sort.{Sort}
 use Rattle.alg_terms.specs.Tree as terms
-use Rattle.alg_expr.specs.Arena.{Extends, Extends-self}
+use Rattle.alg_expr.specs.Arena.{Extends}
+use Rattle.alg_expr.proofs.ArenaLaws.{Extends-self, IsIn-extends, tree_of-extends}
 use Rattle.alg_law.specs.declared.combo.ComboStep.{ComboStep}
 use Rattle.alg_law.specs.declared.combo.ComboStep.TheVariants as step
+use Rattle.alg_law.specs.Combinations.{Part, expression, part_of, parts_at, IsStepIn}
 use Rattle.alg_syntax.specs.declared.signs.Operator.{Operator}
 use Rattle.alg_syntax.specs.declared.signs.Operator.TheVariants.{Add, Sub, Mul, Div, Mod, Smul, Pow}
 use Rattle.alg_syntax.specs.Expressions as syntax
-use Rattle.alg_syntax.specs.Nodes.{tree_at}
 use Rattle.alg_names.specs.declared.scope.Scope.{Scope}
-use Rattle.alg_elaborate.specs.Raw.{Raws, applied_at, meant}
+use Rattle.alg_elaborate.specs.Raw.{Raws, applied_at}
 use Rattle.alg_elaborate.specs.TypedTrees.{typed}
 use Rattle.alg_combinations.specs.declared.combining.Job.{Job}
-use Rattle.alg_combinations.specs.declared.combining.Job.TheVariants as job
-use Rattle.alg_combinations.specs.declared.combining.Leaf.{Leaf}
-use Rattle.alg_combinations.specs.Combined.{Combination, expression, negative, joined, combined, Spells}
-use Rattle.alg_combinations.specs.CombinedLaws.{Spells-extends}
-use Rattle.alg_combinations.specs.Combining.{done, JobsIn, leaf_of, with_leaf, step_of, SayAll}
+use Rattle.alg_combinations.specs.Combined.{joint, combined}
+use Rattle.alg_combinations.specs.Combining.{left_of, JobsIn, step_of}
 
 pub extends_self : (ts : List terms.Tree) → Extends ts ts
 extends_self ts = Extends-self ts
 
-pub not_applied : (s : Scope) (k : Sort) (o : Option (List ℕ)) (us : Raws) → combined s k (applied_at o us) ≡ expression (typed s k (applied_at o us))
+pub not_applied : (s : Scope) (k : Sort) (o : Option (List ℕ)) (us : Raws) → combined s k (applied_at o us) ≡ expression (typed s k (applied_at o us)) ∷ []
 not_applied s k None us = refl
 not_applied s k (Some x) us = refl
 
-all_on : (old new : List terms.Tree) (cs : List ComboStep) (vs : List Combination) → Extends old new → SayAll old cs vs → SayAll new cs vs
-all_on old new cs [] x h = h
-all_on old new cs (v ∷ vs) x h = (h.0, h.1, all_on old new h.0 vs x h.2, Spells-extends old new v h.1 x h.3, h.4)
+step_kept : (old new : List terms.Tree) (c : ComboStep) → Extends old new → IsStepIn old c → IsStepIn new c × (part_of new c ≡ part_of old c)
+step_kept old new (step.Hyp n) x h = (tt, refl)
+step_kept old new (step.Expr e) x h = (IsIn-extends old new e x h, ap expression (tree_of-extends old new e x h))
+step_kept old new step.Neg x h = (tt, refl)
+step_kept old new step.Add x h = (tt, refl)
+step_kept old new step.Sub x h = (tt, refl)
+step_kept old new step.Mul x h = (tt, refl)
+step_kept old new step.Div x h = (tt, refl)
 
--- the arena has grown, and a leaf is said last
-pub pushed : (old new : List terms.Tree) (cs all : List ComboStep) (c : ComboStep) (v : Combination) (vs : List Combination) → Extends old new → SayAll old cs vs → all ≡ cs ++ c ∷ [] → Spells new v (c ∷ []) → SayAll new all (v ∷ vs)
-pushed old new cs all c v vs x h e p = (cs, c ∷ [], all_on old new cs vs x h, p, e)
+-- the arena grows
+pub steps_kept : (old new : List terms.Tree) (cs : List ComboStep) → Extends old new → All (IsStepIn old) cs → All (IsStepIn new) cs
+steps_kept old new cs x h = λ i d l. (step_kept old new (get_or cs i d) x (h i d l)).0
 
--- the newest is negated
-pub negated : (ts : List terms.Tree) (cs all : List ComboStep) (v : Combination) (vs : List Combination) → SayAll ts cs (v ∷ vs) → all ≡ cs ++ step.Neg ∷ [] → SayAll ts all (negative v ∷ vs)
-negated ts cs all v vs h e =
-    let xs = h.0 in
-    let ys = h.1 in
-    (xs, ys ++ step.Neg ∷ [], h.2, (ys, h.3, refl), e ∙ (ap (λ zs. zs ++ step.Neg ∷ []) h.4 ∙ append_assoc xs ys (step.Neg ∷ [])))
+pub parts_kept : (old new : List terms.Tree) (cs : List ComboStep) → Extends old new → All (IsStepIn old) cs → parts_at new cs ≡ parts_at old cs
+parts_kept old new [] x h = refl
+parts_kept old new (c ∷ cs) x h = λ i. (step_kept old new c x (All-head (IsStepIn old) c cs h)).1 i ∷ parts_kept old new cs x (All-tail (IsStepIn old) c cs h) i
 
-joined_spells : (ts : List terms.Tree) (o : Operator) (a b : Combination) (xs ys : List ComboStep) → Spells ts a xs → Spells ts b ys → Spells ts (joined o a b) (xs ++ (ys ++ step_of o ∷ []))
-joined_spells ts Add a b xs ys p q = (xs, ys, p, q, refl)
-joined_spells ts Sub a b xs ys p q = (xs, ys, p, q, refl)
-joined_spells ts Mul a b xs ys p q = (xs, ys, p, q, refl)
-joined_spells ts Div a b xs ys p q = (xs, ys, p, q, refl)
-joined_spells ts Mod a b xs ys p q = (xs, ys, p, q, refl)
-joined_spells ts Smul a b xs ys p q = (xs, ys, p, q, refl)
-joined_spells ts Pow a b xs ys p q = (xs, ys, p, q, refl)
+-- What is combined so far, with what is left, is the whole.
+pub record IsSoFar (ts : List terms.Tree) (cs : List ComboStep) (left whole : List Part) : Type 0 where
+  pub here : All (IsStepIn ts) cs
+  pub said : parts_at ts cs ++ left ≡ whole
 
--- the newest two are joined
-pub joined_two : (ts : List terms.Tree) (o : Operator) (cs all : List ComboStep) (a b : Combination) (vs : List Combination) → SayAll ts cs (b ∷ a ∷ vs) → all ≡ cs ++ step_of o ∷ [] → SayAll ts all (joined o a b ∷ vs)
-joined_two ts o cs all a b vs h e =
-    let before = h.2 in
-    let xs = before.0 in
-    let left = before.1 in
-    let right = h.1 in
-    let shape : all ≡ xs ++ (left ++ (right ++ step_of o ∷ [])) =
-    e ∙ (ap (λ zs. zs ++ step_of o ∷ []) h.4
-    ∙ (append_assoc h.0 right (step_of o ∷ [])
-    ∙ (ap (λ zs. zs ++ (right ++ step_of o ∷ [])) before.4
-    ∙ append_assoc xs left (right ++ step_of o ∷ [])))) in
-    (xs, left ++ (right ++ step_of o ∷ []), before.2, joined_spells ts o a b left right before.3 h.3, shape)
+-- one step more, in an arena that has grown
+pub so_far-push : (old new : List terms.Tree) (cs all : List ComboStep) (c : ComboStep) (v : Part) (before left whole : List Part) → Extends old new → IsSoFar old cs before whole → IsStepIn new c → part_of new c ≡ v → all ≡ cs ++ c ∷ [] → before ≡ v ∷ left → IsSoFar new all left whole
+so_far-push old new cs all c v before left whole x h i p e f =
+    record {
+      here = subst (λ (xs : List ComboStep). All (IsStepIn new) xs) (sym e) (All-push (IsStepIn new) cs c (steps_kept old new cs x h.here) i);
+      said = ap (λ xs. parts_at new xs ++ left) e
+          ∙ ap (λ xs. xs ++ left) (map-append (part_of new) cs (c ∷ []))
+          ∙ append_assoc (parts_at new cs) (part_of new c ∷ []) left
+          ∙ (λ j. parts_kept old new cs x h.here j ++ (p j ∷ left))
+          ∙ ap (λ xs. parts_at old cs ++ xs) (sym f)
+          ∙ h.said;
+    }
 
--- one combination is said by all that there is
-pub said_alone : (ts : List terms.Tree) (cs : List ComboStep) (v : Combination) → SayAll ts cs (v ∷ []) → Spells ts v cs
-said_alone ts cs v h = subst (Spells ts v) (sym (h.4 ∙ ap (λ zs. zs ++ h.1) h.2)) h.3
+pub so_far-same : (ts us : List terms.Tree) (cs : List ComboStep) (before left whole : List Part) → us ≡ ts → IsSoFar ts cs before whole → before ≡ left → IsSoFar us cs left whole
+so_far-same ts us cs before left whole e h f = subst (λ (x : List terms.Tree). IsSoFar x cs left whole) (sym e) (subst (λ xs. IsSoFar ts cs xs whole) f h)
 
--- what a job needs is there, since one combination comes out in the end
-pub one_there : (s : Scope) (k : Sort) (ts : List syntax.Tree) (js : List Job) (vs : List Combination) (v : Combination) → v ∷ [] ≡ done s k ts (job.Negate ∷ js) vs → (x : Combination) × (ws : List Combination) × (vs ≡ x ∷ ws)
-one_there s k ts js [] v e = cc
-one_there s k ts js (x ∷ ws) v e = (x, ws, refl)
+-- the newest job stands first
+pub newest : (s : Scope) (k : Sort) (ts : List syntax.Tree) (items rest : List Job) (j : Job) → items ≡ rest ++ j ∷ [] → left_of s k ts (reverse items) ≡ left_of s k ts (j ∷ reverse rest)
+newest s k ts items rest j e = ap (left_of s k ts) (ap reverse e ∙ reverse-append rest (j ∷ []))
 
-pub two_there : (s : Scope) (k : Sort) (ts : List syntax.Tree) (js : List Job) (o : Operator) (vs : List Combination) (v : Combination) → v ∷ [] ≡ done s k ts (job.Join o ∷ js) vs → (y : Combination) × (x : Combination) × (ws : List Combination) × (vs ≡ y ∷ x ∷ ws)
-two_there s k ts js o [] v e = cc
-two_there s k ts js o (y ∷ []) v e = cc
-two_there s k ts js o (y ∷ x ∷ ws) v e = (y, x, ws, refl)
+pub step_part : (ts : List terms.Tree) (o : Operator) → part_of ts (step_of o) ≡ joint o
+step_part ts Add = refl
+step_part ts Sub = refl
+step_part ts Mul = refl
+step_part ts Div = refl
+step_part ts Mod = refl
+step_part ts Smul = refl
+step_part ts Pow = refl
 
-pub after_leaf : (s : Scope) (k : Sort) (ts : List syntax.Tree) (root : Combination) (vs : List Combination) (items rest new : List Job) (j : Job) (i : ℕ) (o : Option Leaf) (l : Leaf) → root ∷ [] ≡ done s k ts (reverse items) vs → items ≡ rest ++ j ∷ [] → j ≡ job.Down i → ((ws : List Combination) → done s k ts (reverse rest) (combined s k (meant (tree_at ts i)) ∷ ws) ≡ done s k ts (reverse new) (with_leaf s k (meant (tree_at ts i)) o ws)) → o ≡ Some l → root ∷ [] ≡ done s k ts (reverse new) (leaf_of s k (meant (tree_at ts i)) l ∷ vs)
-after_leaf s k ts root vs items rest new j i o l h e f x q =
-    h ∙ (ap (λ js. done s k ts js vs) (ap reverse e ∙ reverse-append rest (j ∷ [])) ∙ (ap (λ (y : Job). done s k ts (y ∷ reverse rest) vs) f ∙ (x vs ∙ ap (λ p. done s k ts (reverse new) (with_leaf s k (meant (tree_at ts i)) p vs)) q)))
-
--- the newest combination and what is done with it
-pub after_negation : (s : Scope) (k : Sort) (ts : List syntax.Tree) (us : List terms.Tree) (root : Combination) (vs : List Combination) (items rest : List Job) (j : Job) (cs all : List ComboStep) → root ∷ [] ≡ done s k ts (reverse items) vs → SayAll us cs vs → items ≡ rest ++ j ∷ [] → j ≡ job.Negate → all ≡ cs ++ step.Neg ∷ [] → (ws : List Combination) × SayAll us all ws × (root ∷ [] ≡ done s k ts (reverse rest) ws)
-after_negation s k ts us root vs items rest j cs all h w e f g =
-    let d : root ∷ [] ≡ done s k ts (job.Negate ∷ reverse rest) vs = h ∙ (ap (λ js. done s k ts js vs) (ap reverse e ∙ reverse-append rest (j ∷ [])) ∙ ap (λ (y : Job). done s k ts (y ∷ reverse rest) vs) f) in
-    let there = one_there s k ts (reverse rest) vs root d in
-    let x = there.0 in
-    let ws = there.1 in
-    (negative x ∷ ws, negated us cs all x ws (subst (SayAll us cs) there.2 w) g, d ∙ ap (done s k ts (job.Negate ∷ reverse rest)) there.2)
-
-pub after_operation : (s : Scope) (k : Sort) (ts : List syntax.Tree) (us : List terms.Tree) (root : Combination) (vs : List Combination) (items rest : List Job) (j : Job) (o : Operator) (cs all : List ComboStep) → root ∷ [] ≡ done s k ts (reverse items) vs → SayAll us cs vs → items ≡ rest ++ j ∷ [] → j ≡ job.Join o → all ≡ cs ++ step_of o ∷ [] → (ws : List Combination) × SayAll us all ws × (root ∷ [] ≡ done s k ts (reverse rest) ws)
-after_operation s k ts us root vs items rest j o cs all h w e f g =
-    let d : root ∷ [] ≡ done s k ts (job.Join o ∷ reverse rest) vs = h ∙ (ap (λ js. done s k ts js vs) (ap reverse e ∙ reverse-append rest (j ∷ [])) ∙ ap (λ (y : Job). done s k ts (y ∷ reverse rest) vs) f) in
-    let there = two_there s k ts (reverse rest) o vs root d in
-    let b = there.0 in
-    let a = there.1 in
-    let ws = there.2 in
-    (joined o a b ∷ ws, joined_two us o cs all a b ws (subst (SayAll us cs) there.3 w) g, d ∙ ap (done s k ts (job.Join o ∷ reverse rest)) there.3)
+pub step_here : (ts : List terms.Tree) (o : Operator) → IsStepIn ts (step_of o)
+step_here ts Add = tt
+step_here ts Sub = tt
+step_here ts Mul = tt
+step_here ts Div = tt
+step_here ts Mod = tt
+step_here ts Smul = tt
+step_here ts Pow = tt
 
 -- the jobs behind the newest
 pub rest_within : (n : ℕ) (items rest : List Job) (j : Job) → JobsIn n (reverse items) → items ≡ rest ++ j ∷ [] → JobsIn n (reverse rest)

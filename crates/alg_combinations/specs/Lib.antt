@@ -1,3 +1,2 @@
 pub mod Combined
-pub mod CombinedLaws
 pub mod Combining

@@ -1,4 +1,4 @@
-ghost use Rattle.std.specs.Prelude.{◌≡◌, ◌+◌, ◌*◌, ◌<◌, List, length, [], ◌∷◌, reverse, IfOk, option_map};
+ghost use Rattle.std.specs.Prelude.{◌≡◌, ◌+◌, ◌*◌, ◌<◌, ◌++◌, length, [], ◌∷◌, All, reverse, IfOk, option_map};
 ghost use Rattle.alg_expr.specs.Arena.{Extends};
 ghost use Rattle.alg_terms.specs.declared.sorts.Sort as sorts;
 ghost use Rattle.alg_syntax.specs.Nodes.{tree_at};
@@ -6,9 +6,10 @@ ghost use Rattle.alg_names.specs.declared.scope.Scope as declared;
 ghost use Rattle.alg_elaborate.specs.Raw.{Raw, meant, size};
 ghost use Rattle.alg_elaborate.specs.Tasks.{proofs_in};
 ghost use Rattle.alg_elaborate.specs.TypedTrees.{typed};
-ghost use Rattle.alg_combinations.specs.Combined.{Combination, Spells, Says, named_combination, combined};
+ghost use Rattle.alg_law.specs.Combinations.{part_of, parts_of, IsStepIn};
+ghost use Rattle.alg_combinations.specs.Combined.{named_part, combined};
 ghost use Rattle.alg_combinations.specs.Combining as steps;
-ghost use Rattle.alg_combinations.specs.Combining.{done, JobsIn, jobs_size, leaf_of, with_leaf};
+ghost use Rattle.alg_combinations.specs.Combining.{left_of, JobsIn, jobs_size, leaf_of, with_leaf};
 
 use alg_elaborate::{build, combines, is_marked};
 use alg_expr::{Arena, Items, Memory, Sort};
@@ -46,7 +47,7 @@ fn step_of(operator: Operator) -> ComboStep
 
 // A hypothesis, where the name stands for one.
 fn name_leaf(meaning: Option<&Meaning>) -> Leaf
-    ensures { (s : declared.Scope) (k : sorts.Sort) (r : Raw) → leaf_of s k r result ≡ named_combination (typed s k r) (option_map (λ m. m.now) meaning.entry) }
+    ensures { (s : declared.Scope) (k : sorts.Sort) (r : Raw) → leaf_of s k r result ≡ named_part (typed s k r) (option_map (λ m. m.now) meaning.entry) }
 {
     match meaning {
         Some(Meaning::Hypothesis(number, _, _)) => Leaf::Hypothesis(*number),
@@ -67,7 +68,7 @@ fn plan<'a>(
     requires here { id < length nodes.now }
     requires jobs { JobsIn (length nodes.now) (reverse jobs.old.items) }
     requires marked { proofs.now ≡ proofs_in scope.now nodes.now }
-    ensures exact { IfOk result (λ o. (vs : List Combination) → done scope.now kind nodes.now (reverse jobs.old.items) (combined scope.now kind (meant (tree_at nodes.now id)) ∷ vs) ≡ done scope.now kind nodes.now (reverse jobs.new.items) (with_leaf scope.now kind (meant (tree_at nodes.now id)) o vs)) }
+    ensures exact { IfOk result (λ o. combined scope.now kind (meant (tree_at nodes.now id)) ++ left_of scope.now kind nodes.now (reverse jobs.old.items) ≡ with_leaf scope.now kind (meant (tree_at nodes.now id)) o (left_of scope.now kind nodes.now (reverse jobs.new.items))) }
     ensures within { IfOk result (λ _. JobsIn (length nodes.now) (reverse jobs.new.items)) }
     ensures smaller { IfOk result (λ _. jobs_size nodes.now (reverse jobs.new.items) < 2 * size (tree_at nodes.now id) + jobs_size nodes.now (reverse jobs.old.items)) }
 {
@@ -113,7 +114,8 @@ fn leaf_step<'a>(
 ) -> Result<ComboStep, Memory>
     requires { id < length nodes.now }
     ensures kept { Extends arena.old arena.new }
-    ensures told { IfOk result (λ c. Spells arena.new (leaf_of scope.now kind (meant (tree_at nodes.now id)) leaf) (c ∷ [])) }
+    ensures here { IfOk result (IsStepIn arena.new) }
+    ensures told { IfOk result (λ c. part_of arena.new c ≡ leaf_of scope.now kind (meant (tree_at nodes.now id)) leaf) }
 {
     match leaf {
         Leaf::Hypothesis(number) => Ok(ComboStep::Hyp(number)),
@@ -135,7 +137,8 @@ pub fn build_combination<'a>(
     requires here { id < length nodes.now }
     requires marked { proofs.now ≡ proofs_in scope.now nodes.now }
     ensures kept { Extends arena.old arena.new }
-    ensures told { IfOk result (λ c. Says arena.new c (combined scope.now kind (meant (tree_at nodes.now id)))) }
+    ensures here { IfOk result (λ c. All (IsStepIn arena.new) c.steps) }
+    ensures told { IfOk result (λ c. parts_of arena.new c ≡ combined scope.now kind (meant (tree_at nodes.now id))) }
 {
     let mut jobs: Vec<Job> = Vec::new(alloc);
     let mut steps: Vec<ComboStep> = Vec::new(alloc);

@@ -3,8 +3,8 @@ use Rattle.std.proofs.Common.{◌≡◌, ℕ, zero, suc, ◌+◌, ◌*◌, ◌-�
 use Rattle.std.specs.Int.{IsGcd, ◌∣◌}
 use Rattle.std.proofs.lemmas.Bool.{cases_lt}
 use Rattle.std.proofs.Math.Nat.{mul-le-mul_left, le_of_mul-le-mul_right, div-mul_cancel, dvd-mul_left}
-use Rattle.alg_num.specs.IntegerLaws.{cancel_ℕ, positive_factor}
-use Rattle.alg_num.specs.CoprimeLaws.{gcd_positive, coprime_quotients, divides_other}
+use Rattle.alg_num.proofs.IntegerLaws.{cancel_ℕ, positive_factor}
+use Rattle.alg_num.proofs.CoprimeLaws.{gcd_positive, coprime_quotients, divides_other}
 use Rattle.alg_law.specs.LeanFunctions.{choose}
 
 pub choose-zero : (n : ℕ) → choose n 0 ≡ 1

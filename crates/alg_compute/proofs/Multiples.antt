@@ -4,7 +4,7 @@ use Rattle.std.specs.Int.{IsGcd, ◌∣◌}
 use Rattle.std.proofs.lemmas.Nat.Gcd.{same_from_IsGcd}
 use Rattle.std.proofs.Math.Nat.{eq-zero_of_zero-dvd}
 use Rattle.alg_num.specs.Reduced.{greatest_divisor}
-use Rattle.alg_num.specs.ReducedLaws.{IsGcd-greatest_divisor}
+use Rattle.alg_num.proofs.ReducedLaws.{IsGcd-greatest_divisor}
 use Rattle.alg_law.specs.Computing.{least_multiple}
 
 pub divisor_is : (a b g : ℕ) → IsGcd a b g → g ≡ greatest_divisor a b

@@ -6,7 +6,8 @@ use Rattle.alg_terms.specs.declared.sorts.Sort.{Sort}
 use Rattle.alg_terms.specs.declared.symbols.Sym.{Sym}
 use Rattle.alg_terms.specs.Tree as terms
 use Rattle.alg_expr.specs.declared.ids.ExprId.{ExprId}
-use Rattle.alg_expr.specs.Arena.{Extends, IsIn-extends, tree_of-extends}
+use Rattle.alg_expr.specs.Arena.{Extends}
+use Rattle.alg_expr.proofs.ArenaLaws.{IsIn-extends, tree_of-extends}
 use Rattle.alg_expr.specs.Ids.{tree_of, IsIn, trees_at}
 use Rattle.alg_syntax.specs.Expressions.{Tree}
 use Rattle.alg_syntax.specs.Nodes.{tree_at}

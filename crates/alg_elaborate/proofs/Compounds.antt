@@ -6,7 +6,8 @@ use Rattle.alg_terms.specs.declared.symbols.Sym.{Sym}
 use Rattle.alg_terms.specs.Tree.{Tree, Lit, App, of_list, sort_of_tree}
 use Rattle.alg_expr.specs.declared.ids.ExprId.{ExprId}
 use Rattle.alg_expr.specs.Applying.{sorts_at, arity_fits, sorts_fit}
-use Rattle.alg_expr.specs.Arena.{GrowsBy, Imports, GrowsBy-Extends}
+use Rattle.alg_expr.specs.Arena.{GrowsBy, Imports}
+use Rattle.alg_expr.proofs.ArenaLaws.{GrowsBy-Extends}
 use Rattle.alg_expr.specs.Ids.{tree_of, trees_at}
 use Rattle.alg_elaborate.specs.TypedTrees.{tree_where, compound}
 

@@ -3,7 +3,8 @@ use Rattle.std.proofs.Common.{◌≡◌, refl, sym, ap, ◌∙◌, List, [], ◌
 use Rattle.alg_terms.specs.declared.sorts.Sort.{Sort}
 use Rattle.alg_terms.specs.Tree as terms
 use Rattle.alg_expr.specs.declared.ids.ExprId.{ExprId}
-use Rattle.alg_expr.specs.Arena.{Extends, IsIn-extends, tree_of-extends}
+use Rattle.alg_expr.specs.Arena.{Extends}
+use Rattle.alg_expr.proofs.ArenaLaws.{IsIn-extends, tree_of-extends}
 use Rattle.alg_expr.specs.Ids.{IsIn, tree_of}
 use Rattle.alg_names.specs.declared.scope.Scope.{Scope}
 use Rattle.alg_elaborate.specs.declared.causes.Cause.{Cause}

@@ -11,7 +11,8 @@ use Rattle.alg_terms.specs.declared.sorts.Sort.TheVariants.{Nat}
 use Rattle.alg_terms.specs.Tree.{Tree, Lit}
 use Rattle.alg_expr.specs.declared.ids.ExprId.{ExprId}
 use Rattle.alg_expr.specs.Ids.{tree_of, IsIn, trees_at}
-use Rattle.alg_expr.specs.Arena.{Extends, Imports, IsIn-extends, tree_of-extends}
+use Rattle.alg_expr.specs.Arena.{Extends, Imports}
+use Rattle.alg_expr.proofs.ArenaLaws.{IsIn-extends, tree_of-extends}
 use Rattle.alg_expr.specs.Copies.{IsCopy, AreCopies, next_of, weight, steps_left}
 
 -- one more copy of a list of parts

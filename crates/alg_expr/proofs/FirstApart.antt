@@ -9,10 +9,12 @@ use Rattle.std.specs.declared.cmp.Ordering.TheVariants.{Equal}
 use Rattle.alg_terms.specs.declared.sorts.Sort.{Sort}
 use Rattle.alg_terms.specs.declared.symbols.Sym.{Sym}
 use Rattle.alg_terms.specs.Tree.{Tree, App, of_list}
-use Rattle.alg_terms.specs.Order.{tree_cmp, trees_cmp, sym_cmp, sort_cmp, tree_cmp-self, tree_cmp-equal}
+use Rattle.alg_terms.specs.Order.{tree_cmp, trees_cmp, sym_cmp, sort_cmp}
+use Rattle.alg_terms.proofs.OrderLaws.{tree_cmp-self, tree_cmp-equal}
 use Rattle.alg_expr.specs.declared.ids.ExprId.{ExprId}
 use Rattle.alg_expr.specs.Ids.{tree_of, IsIn, trees_at}
-use Rattle.alg_expr.specs.Distinct.{AreDistinct, same_id-from_tree}
+use Rattle.alg_expr.specs.Distinct.{AreDistinct}
+use Rattle.alg_expr.proofs.DistinctLaws.{same_id-from_tree}
 use Rattle.alg_expr.specs.Steps.{AreApart, HaveOrder}
 
 then-decided : (o p : Ordering) → (o ≡ Equal → ⊥) → ordering_then o p ≡ o

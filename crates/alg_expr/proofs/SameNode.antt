@@ -4,7 +4,8 @@ use Rattle.std.proofs.lemmas.Bool.{and_parts}
 use Rattle.std.specs.Cmp.Lexicographic.{pointwise}
 use Rattle.alg_terms.specs.declared.sorts.Sort.{Sort}
 use Rattle.alg_terms.specs.declared.symbols.Sym.{Sym}
-use Rattle.alg_terms.specs.Tree.{Tree, of_list, to_list, to_list-of_list}
+use Rattle.alg_terms.specs.Tree.{Tree, of_list, to_list}
+use Rattle.alg_terms.proofs.TreeLaws.{to_list-of_list}
 use Rattle.alg_terms.specs.contracts.sorts.SortPartialEq.TheImpl as sort_eq
 use Rattle.alg_terms.specs.contracts.symbols.SymPartialEq.TheImpl as sym_eq
 use Rattle.alg_expr.specs.contracts.ids.ExprIdPartialEq.TheImpl as id_eq
@@ -14,7 +15,8 @@ use Rattle.alg_expr.specs.declared.ids.ExprId.{ExprId}
 use Rattle.alg_expr.specs.declared.nodes.Node.{Node}
 use Rattle.alg_expr.specs.declared.nodes.Node.TheVariants as node
 use Rattle.alg_expr.specs.Ids.{trees_at}
-use Rattle.alg_expr.specs.Distinct.{AreDistinct, same_ids-from_trees}
+use Rattle.alg_expr.specs.Distinct.{AreDistinct}
+use Rattle.alg_expr.proofs.DistinctLaws.{same_ids-from_trees}
 use Rattle.alg_expr.specs.Nodes.{tree_at, IsBelow}
 
 abbrev pub same_node : Node → Node → Bool

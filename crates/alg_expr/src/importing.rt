@@ -1,10 +1,10 @@
 ghost use Rattle.std.specs.Prelude.{◌≡◌, All, IfOk, OnErr};
-ghost use Rattle.alg_expr.specs.Ids.{tree_of, IsIn};
+ghost use Rattle.alg_expr.specs.Ids.{tree_of, statement_of, IsIn, IsStatementIn};
 ghost use Rattle.alg_expr.specs.Arena.{Extends, Imports};
 ghost use Rattle.alg_expr.specs.Copies.{AreCopies, Copies, HasParts, next_of};
 
 use crate::arena::Arena;
-use crate::ids::{ExprId, View};
+use crate::ids::{ExprId, Stmt, View};
 use crate::memory::Memory;
 use indexmap::IndexMap;
 
@@ -37,6 +37,24 @@ impl Arena {
                 Err(fault)
             }
         }
+    }
+
+    /// The statement in this arena, whose sides are copied where they are missing. After `Memory` the left side may have
+    /// been copied alone.
+    pub fn import_statement(&mut self, from: &Arena, s: Stmt) -> Result<Stmt, Memory>
+        requires { IsStatementIn from.now s }
+        ensures keeps { Extends self.old self.new }
+        ensures here { IfOk result (λ q. IsStatementIn self.new q) }
+        ensures same { IfOk result (λ q. statement_of self.new q ≡ statement_of from.now s) }
+    {
+        let lhs = self.import(from, s.lhs)?;
+        let rhs = self.import(from, s.rhs)?;
+        Ok(Stmt {
+            rel: s.rel,
+            sort: s.sort,
+            lhs,
+            rhs,
+        })
     }
 
     // copies the tree part by part; after an error some parts may have been copied

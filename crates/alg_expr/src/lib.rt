@@ -12,7 +12,7 @@ mod nodes;
 mod tests;
 mod text;
 
-pub use alg_terms::{BadCause, Place, Rel, Sort, Sym};
+pub use alg_terms::{BadCause, GREATEST_LITERAL, Place, Rel, Sort, Sym};
 pub use arena::{Arena, ExprFault};
 pub use ids::{ExprId, Stmt, View};
 pub use items::Items;

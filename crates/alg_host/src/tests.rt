@@ -1,4 +1,4 @@
-use crate::{CreateFault, Failed, Host, LoadFault, MemoryHost, RealHost};
+use crate::{CreateFault, Host, LoadFault, MemoryHost, RealHost};
 use std::alloc::{AllocError, Global};
 use std::collections::BTreeMap;
 use std::test::Fail;
@@ -30,33 +30,6 @@ fn loads_from_memory(rt: HostRuntime) -> Result<(), Fail> {
             _ => assert!(rt; false, "{path} within {limit}"),
         }
     }
-    Ok(())
-}
-
-#[test]
-fn adds_in_memory(rt: HostRuntime) -> Result<(), Fail> {
-    let alloc = rt.alloc();
-    let failing = vec![in alloc; 1u64, 4u64]?;
-    let mut host = MemoryHost::new(alloc, BTreeMap::new(alloc), failing, 5)?;
-    assert_eq!(rt; host.create(alloc, "OUT"), Err(CreateFault::Failed));
-    assert_eq!(rt; host.create(alloc, "OUT"), Ok(()));
-    let rows = [
-        ("ab", Ok(()), Err(Failed), Ok(()), "ab", ""),
-        ("wxyz", Err(Failed), Ok(()), Err(Failed), "ab", "wxyz"),
-        ("def", Ok(()), Err(Failed), Ok(()), "abdef", "wxyz"),
-        ("", Ok(()), Ok(()), Ok(()), "abdef", "wxyz"),
-    ];
-    for (piece, appends, complains, says, added, complained) in rows {
-        let bytes = piece.as_bytes();
-        assert_eq!(rt; host.append(bytes), appends, "{piece}");
-        assert_eq!(rt; host.complain(bytes), complains, "{piece}");
-        assert_eq!(rt; host.say(bytes), says, "{piece}");
-        assert_eq!(rt; host.created(), added.as_bytes(), "after {piece}");
-        assert_eq!(rt; host.said(), added.as_bytes(), "after {piece}");
-        assert_eq!(rt; host.complained(), complained.as_bytes(), "after {piece}");
-    }
-    assert_eq!(rt; host.create(alloc, "OUT"), Err(CreateFault::Failed));
-    assert_eq!(rt; host.goals().len(), 0);
     Ok(())
 }
 

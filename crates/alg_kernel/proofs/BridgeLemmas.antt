@@ -5,7 +5,8 @@ use Rattle.alg_terms.specs.declared.symbols.Sym.{Sym}
 use Rattle.alg_terms.specs.Tree.{Tree, Lit, App, Nil, Cons, of_list, sort_of_tree}
 use Rattle.alg_expr.specs.declared.ids.ExprId.{ExprId}
 use Rattle.alg_expr.specs.Ids.{tree_of, trees_at, IsIn}
-use Rattle.alg_expr.specs.Arena.{GrowsBy, GrowsBy-Extends, Imports, tree_of-extends}
+use Rattle.alg_expr.specs.Arena.{GrowsBy, Imports}
+use Rattle.alg_expr.proofs.ArenaLaws.{GrowsBy-Extends, tree_of-extends}
 use Rattle.alg_kernel.proofs.TreeLemmas.{grow-two}
 
 module _ (old mid new : List Tree) (f : Sym) (of : Sort) (n : ℕ) (e l x : ExprId) (s : Sort) (here : IsIn old e) (sort : s ≡ sort_of_tree (tree_of old e)) (g : GrowsBy old mid l (Lit of n)) where

@@ -4,11 +4,12 @@ use Rattle.std.specs.Prelude.{option_map}
 use Rattle.alg_terms.specs.Tree.{Tree, Statement}
 use Rattle.alg_expr.specs.declared.ids.Stmt.{Stmt}
 use Rattle.alg_expr.specs.Ids.{statement_of, IsStatementIn}
-use Rattle.alg_expr.specs.Arena.{Extends, statement_of-extends}
+use Rattle.alg_expr.specs.Arena.{Extends}
+use Rattle.alg_expr.proofs.ArenaLaws.{statement_of-extends}
 use Rattle.alg_law.specs.Declarations.{Declaration}
 use Rattle.alg_law.specs.Following.{IsWellFormed}
 use Rattle.alg_law.specs.Derivations.{Derivable}
-use Rattle.alg_law.specs.NoFalseLaw.{derivable-true}
+use Rattle.alg_law.proofs.NoFalseLaw.{derivable-true}
 use Rattle.alg_proof.specs.Steps.{Step}
 use Rattle.alg_proof.specs.Valid.{verdict}
 use Rattle.alg_proof.specs.Admissible.{IsTheory}

@@ -14,7 +14,8 @@ use Rattle.alg_expr.specs.declared.ids.ExprId.{ExprId}
 use Rattle.alg_expr.specs.declared.ids.Stmt.{Stmt}
 use Rattle.alg_terms.specs.declared.symbols.Place.{Place}
 use Rattle.alg_expr.specs.Ids.{tree_of, trees_at, IsIn}
-use Rattle.alg_expr.specs.Arena.{Extends, GrowsBy, GrowsBy-Extends, tree_of-extends, IsIn-extends}
+use Rattle.alg_expr.specs.Arena.{Extends, GrowsBy}
+use Rattle.alg_expr.proofs.ArenaLaws.{GrowsBy-Extends, tree_of-extends, IsIn-extends}
 use Rattle.alg_expr.specs.Applying.{arity_fits, sorts_fit, sorts_at}
 use Rattle.alg_law.specs.declared.patterns.Pat.{Pat as Node}
 use Rattle.alg_law.specs.declared.patterns.Pat.TheVariants as node
@@ -22,7 +23,7 @@ use Rattle.alg_law.specs.declared.patterns.PatStmt.{PatStmt}
 use Rattle.alg_law.specs.declared.marks.Mark.TheVariants.{Good}
 use Rattle.alg_law.specs.Declarations.{Declaration}
 use Rattle.alg_law.specs.WellSorted.{head_mark, marks_of, sorts_of, IsWellSorted}
-use Rattle.alg_law.specs.WellSortedLaws.{worse-parts}
+use Rattle.alg_law.proofs.WellSortedLaws.{worse-parts}
 use Rattle.alg_law.specs.Patterns.{Pat, sort_for, fill, fills, fill_statement}
 use Rattle.alg_law.specs.LawRows.{parts, put, patterns, first_of, pattern_of}
 use Rattle.alg_kernel.specs.Filling.{Stands, AllStand, IsEntryIn, IsFilled, put_tree, filled}
@@ -87,14 +88,6 @@ second-bad ds f s t u ts n g =
     n (worse-parts _ (marks_of ds ts) k.1).0
 
 module _ (ds : List Declaration) (old new : List Tree) (grown : Extends old new) (f : Sym) (s : Sort) (ts : List Tree) (o : Option ExprId) where
-  -- nothing was on the stack
-  pub none-put : (n : ℕ) (es : List (Option ExprId)) → es ≡ [] → Stands ds new o (App f s Nil) → AllStand ds old (reverse es) ts → Stands ds new o (App f s (of_list (take (suc n) ts))) × AllStand ds new (reverse es) (drop (suc n) ts)
-  none-put n es e h a = by-shape ts (subst (λ (x : List (Option ExprId)). AllStand ds old (reverse x) ts) e a)
-    where
-      by-shape : (us : List Tree) → AllStand ds old [] us → Stands ds new o (App f s (of_list (take (suc n) us))) × AllStand ds new (reverse es) (drop (suc n) us)
-      by-shape [] k = (h, subst (λ (x : List (Option ExprId)). AllStand ds new (reverse x) []) (sym e) tt)
-      by-shape (u ∷ us) k = absurd k
-
   -- one tree was taken
   pub one-put : (es rest : List (Option ExprId)) (a : Option ExprId) → es ≡ rest ++ a ∷ [] → ((t : Tree) → Stands ds old a t → Stands ds new o (App f s (Cons t Nil))) → AllStand ds old (reverse es) ts
       → Stands ds new o (App f s (of_list (take 1 ts))) × AllStand ds new (reverse rest) (drop 1 ts)
@@ -103,16 +96,6 @@ module _ (ds : List Declaration) (old new : List Tree) (grown : Extends old new)
       by-shape : (us : List Tree) → AllStand ds old (a ∷ reverse rest) us → Stands ds new o (App f s (of_list (take 1 us))) × AllStand ds new (reverse rest) (drop 1 us)
       by-shape [] m = absurd m
       by-shape (u ∷ us) m = (h u m.0, AllStand-extends ds old new grown (reverse rest) us m.1)
-
-  -- one tree was there for a symbol with two places
-  pub last-put : (es rest : List (Option ExprId)) (a : Option ExprId) → es ≡ rest ++ a ∷ [] → rest ≡ [] → ((t : Tree) → Stands ds old a t → Stands ds new o (App f s (Cons t Nil))) → AllStand ds old (reverse es) ts
-      → Stands ds new o (App f s (of_list (take 2 ts))) × AllStand ds new (reverse rest) (drop 2 ts)
-  last-put es rest a e n h k = by-shape ts (subst (λ (x : List (Option ExprId)). AllStand ds old x ts) (ap reverse e ∙ reverse-push rest a ∙ ap (λ (x : List (Option ExprId)). a ∷ reverse x) n) k)
-    where
-      by-shape : (us : List Tree) → AllStand ds old (a ∷ []) us → Stands ds new o (App f s (of_list (take 2 us))) × AllStand ds new (reverse rest) (drop 2 us)
-      by-shape [] m = absurd m
-      by-shape (u ∷ []) m = (h u m.0, subst (λ (x : List (Option ExprId)). AllStand ds new (reverse x) []) (sym n) tt)
-      by-shape (u ∷ v ∷ us) m = absurd m.1
 
   -- two trees were taken
   pub two-put : (es mid rest : List (Option ExprId)) (a b : Option ExprId) → es ≡ mid ++ a ∷ [] → mid ≡ rest ++ b ∷ [] → ((t u : Tree) → Stands ds old a t → Stands ds old b u → Stands ds new o (App f s (Cons t (Cons u Nil)))) → AllStand ds old (reverse es) ts
@@ -167,21 +150,6 @@ filled-before ds old mid new nodes i j d ls s with before after n l x h e f =
     let same : trees_at mid with ≡ trees_at old with = trees_at-extends old mid with x h in
     let put : AllStand ds new (reverse after) (put_tree ls s (trees_at mid with) (get_or nodes i d) (filled ls s (trees_at old with) (drop (suc i) nodes))) = f _ (subst (AllStand ds mid (reverse before)) g e) in
     rw k (subst (λ (ys : List Tree). AllStand ds new (reverse after) (put_tree ls s ys (get_or nodes i d) (filled ls s (trees_at old with) (drop (suc i) nodes)))) same put)
-
--- the top, or the literal 0
-pub taken-some : (ds : List Declaration) (ts : List Tree) (es rest : List (Option ExprId)) (a : Option ExprId) (us : List Tree) → es ≡ rest ++ a ∷ [] → AllStand ds ts (reverse es) us → Stands ds ts a (get_or us 0 (Lit Nat 0)) × AllStand ds ts (reverse rest) (drop 1 us)
-taken-some ds ts es rest a us e k = by-shape us (subst (λ (x : List (Option ExprId)). AllStand ds ts x us) (ap reverse e ∙ reverse-push rest a) k)
-  where
-    by-shape : (vs : List Tree) → AllStand ds ts (a ∷ reverse rest) vs → Stands ds ts a (get_or vs 0 (Lit Nat 0)) × AllStand ds ts (reverse rest) (drop 1 vs)
-    by-shape [] m = absurd m
-    by-shape (v ∷ vs) m = (m.0, m.1)
-
-pub taken-none : (ds : List Declaration) (old new : List Tree) (es : List (Option ExprId)) (o : Option ExprId) (us : List Tree) → es ≡ [] → Stands ds new o (Lit Nat 0) → AllStand ds old (reverse es) us → Stands ds new o (get_or us 0 (Lit Nat 0)) × AllStand ds new (reverse es) (drop 1 us)
-taken-none ds old new es o us e h k = by-shape us (subst (λ (x : List (Option ExprId)). AllStand ds old (reverse x) us) e k)
-  where
-    by-shape : (vs : List Tree) → AllStand ds old [] vs → Stands ds new o (get_or vs 0 (Lit Nat 0)) × AllStand ds new (reverse es) (drop 1 vs)
-    by-shape [] m = (h, subst (λ (x : List (Option ExprId)). AllStand ds new (reverse x) []) (sym e) tt)
-    by-shape (v ∷ vs) m = absurd m
 
 -- a push
 pub AllStand-push : (ds : List Declaration) (old new : List Tree) (es after : List (Option ExprId)) (o : Option ExprId) (t : Tree) (ts : List Tree) → Extends old new → after ≡ es ++ o ∷ [] → Stands ds new o t → AllStand ds old (reverse es) ts → AllStand ds new (reverse after) (t ∷ ts)

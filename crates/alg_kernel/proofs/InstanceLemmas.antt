@@ -5,7 +5,8 @@ use Rattle.alg_terms.specs.Tree.{Tree, Statement}
 use Rattle.alg_expr.specs.declared.ids.ExprId.{ExprId}
 use Rattle.alg_expr.specs.declared.ids.Stmt.{Stmt}
 use Rattle.alg_expr.specs.Ids.{trees_at, IsIn, statement_of, statements_of, IsStatementIn}
-use Rattle.alg_expr.specs.Arena.{Extends, statement_of-extends}
+use Rattle.alg_expr.specs.Arena.{Extends}
+use Rattle.alg_expr.proofs.ArenaLaws.{statement_of-extends}
 use Rattle.alg_law.specs.declared.patterns.PatStmt.{PatStmt}
 use Rattle.alg_law.specs.Declarations.{Declaration}
 use Rattle.alg_law.specs.WellSorted.{IsStatement}
@@ -14,7 +15,7 @@ use Rattle.alg_law.specs.Patterns.{fill_statement}
 use Rattle.alg_law.specs.Rows.{Row, letters_of}
 use Rattle.alg_proof.specs.Causes.{statement_same}
 use Rattle.alg_proof.specs.Instances.{letters_fit, premises_fit, sort_meets_all, class_meets_all, premises_alike, instance_of}
-use Rattle.alg_proof.specs.InstanceLaws.{same-equal}
+use Rattle.alg_proof.proofs.InstanceLaws.{same-equal}
 use Rattle.alg_proof.specs.Admissible.{AllFine}
 use Rattle.alg_kernel.proofs.TreeLemmas.{trees_at-extends}
 

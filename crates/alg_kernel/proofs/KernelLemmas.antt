@@ -6,7 +6,8 @@ use Rattle.std.proofs.lemmas.List.Elements.{All-push}
 use Rattle.alg_terms.specs.Tree.{Tree, Statement}
 use Rattle.alg_expr.specs.declared.ids.Stmt.{Stmt}
 use Rattle.alg_expr.specs.Ids.{statement_of, statements_of, IsStatementIn}
-use Rattle.alg_expr.specs.Arena.{Extends, statements_of-extends}
+use Rattle.alg_expr.specs.Arena.{Extends}
+use Rattle.alg_expr.proofs.ArenaLaws.{statements_of-extends}
 use Rattle.alg_law.specs.declared.marks.Mark.{Mark}
 use Rattle.alg_law.specs.declared.marks.Mark.TheVariants.{Good}
 use Rattle.alg_law.specs.Marks.{HasMarks}
@@ -16,7 +17,8 @@ use Rattle.alg_proof.specs.declared.lines.Line.{Line}
 use Rattle.alg_proof.specs.Lines.{step_of, steps_of, IsLineIn}
 use Rattle.alg_proof.specs.Steps.{Theory, Step, step_mark, conclude, conclude_named}
 use Rattle.alg_proof.specs.Valid.{Accepted, verdict}
-use Rattle.alg_proof.specs.Admissible.{AllFine, AllFine-push, IsFine, IsTheory, Follows, conclude-fine, verdict_from-fine, valid-derivable}
+use Rattle.alg_proof.specs.Admissible.{AllFine, IsFine, IsTheory, Follows}
+use Rattle.alg_proof.proofs.Admissible.{AllFine-push, conclude-fine, verdict_from-fine, valid-derivable}
 use Rattle.alg_kernel.specs.declared.answers.Fault.{Fault}
 use Rattle.alg_kernel.specs.declared.answers.Fault.TheVariants as fault
 use Rattle.alg_kernel.specs.declared.answers.Checked.{Checked}
@@ -28,8 +30,8 @@ use Rattle.alg_kernel.specs.declared.kernel.Kernel.{Kernel}
 use Rattle.alg_kernel.specs.Answers.{IsFed, IsPassed, GivesVerdict}
 use Rattle.alg_kernel.specs.Progress.{Progress, Going, Stopped, next, advance, outcome}
 use Rattle.alg_kernel.specs.State.{theory_of, IsGivenIn, reached, progress_of, IsSound, IsFresh, Answers, AnswersAll}
-use Rattle.alg_kernel.specs.Growing.{step_of-extends, theory_of-extends, IsSound-extends}
-use Rattle.alg_kernel.specs.Verdicts.{advance-stopped, verdict-advance}
+use Rattle.alg_kernel.proofs.Growing.{step_of-extends, theory_of-extends, IsSound-extends}
+use Rattle.alg_kernel.proofs.Verdicts.{advance-stopped, verdict-advance}
 use Rattle.alg_kernel.proofs.CongLemmas.{passed}
 
 -- one more statement

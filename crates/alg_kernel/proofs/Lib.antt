@@ -6,6 +6,8 @@ pub mod FillingLemmas
 pub mod BridgeLemmas
 pub mod NumeralLemmas
 pub mod ValueLemmas
+pub mod Growing
+pub mod Verdicts
 pub mod KernelLemmas
 pub mod InstanceLemmas
 pub mod LetterLemmas

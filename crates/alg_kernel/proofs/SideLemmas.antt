@@ -17,10 +17,7 @@ use Rattle.alg_law.specs.declared.marks.Mark.TheVariants.{Good, NoInstance, BadS
 use Rattle.alg_law.specs.Declarations.{Declaration}
 use Rattle.alg_law.specs.WellSorted.{worse, sort_mark, head_mark, symbol_mark, built_in_mark, class_mark, has_classes, sorts_of}
 use Rattle.alg_proof.specs.Steps.{left_sides, right_sides}
-use Rattle.alg_terms.specs.declared.symbols.Place.{Place}
-use Rattle.alg_terms.specs.declared.symbols.Place.TheVariants.{Same, OfNat, OfInt}
-use Rattle.alg_proof.specs.Steps.{same_sort}
-use Rattle.alg_kernel.specs.Sides.{left_ids, right_ids, is_same}
+use Rattle.alg_kernel.specs.Sides.{left_ids, right_ids}
 
 pub left_sides-ids : (ts : List Tree) (ss : List Stmt) → left_sides (statements_of ts ss) ≡ of_list (trees_at ts (left_ids ss))
 left_sides-ids ts [] = refl
@@ -100,25 +97,3 @@ worse-good-right BadName b e = cc
 
 pub head-fits : (ds : List Declaration) (f : Sym) (s : Sort) (ts : List Sort) → head_mark ds f s ts ≡ Good → (arity_fits f (length ts) ≡ true) × (sorts_fit f s ts ≡ true)
 head-fits ds f s ts e = symbol-fits ds f s ts (worse-good-right (sort_mark ds s) (symbol_mark ds f s ts) e)
-
--- the first argument that has the sort of the value
-same-head : (p : Place) (ps : List Place) (t : Sort) (ts : List Sort) → is_same p ≡ true → same_sort (p ∷ ps) (t ∷ ts) ≡ Some t
-same-head Same ps t ts e = refl
-same-head OfNat ps t ts e = cc
-same-head OfInt ps t ts e = cc
-
-same-tail : (p : Place) (ps : List Place) (t : Sort) (ts : List Sort) → is_same p ≡ false → same_sort (p ∷ ps) (t ∷ ts) ≡ same_sort ps ts
-same-tail Same ps t ts e = cc
-same-tail OfNat ps t ts e = refl
-same-tail OfInt ps t ts e = refl
-
-pub no-arguments : (ps : List Place) → same_sort ps [] ≡ None
-no-arguments [] = refl
-no-arguments (p ∷ ps) = refl
-
-module _ (ts : List Tree) (ps : List Place) (es : List ExprId) (i : ℕ) (d : Place) (e : ExprId) (l : i < length ps) (m : i < length es) where
-  pub same-here : is_same (get_or ps i d) ≡ true → same_sort (drop i ps) (sorts_at ts (drop i es)) ≡ Some (sort_of_tree (tree_of ts (get_or es i e)))
-  same-here t = rw (drop-cons ps i d l, drop-cons es i e m) (same-head (get_or ps i d) (drop (suc i) ps) (sort_of_tree (tree_of ts (get_or es i e))) (sorts_at ts (drop (suc i) es)) t)
-
-  pub same-next : is_same (get_or ps i d) ≡ false → same_sort (drop i ps) (sorts_at ts (drop i es)) ≡ same_sort (drop (suc i) ps) (sorts_at ts (drop (suc i) es))
-  same-next t = rw (drop-cons ps i d l, drop-cons es i e m) (same-tail (get_or ps i d) (drop (suc i) ps) (sort_of_tree (tree_of ts (get_or es i e))) (sorts_at ts (drop (suc i) es)) t)

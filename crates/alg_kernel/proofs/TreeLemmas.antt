@@ -6,12 +6,15 @@ use Rattle.alg_terms.specs.declared.sorts.Sort.{Sort}
 use Rattle.alg_terms.specs.declared.symbols.Sym.{Sym}
 use Rattle.alg_terms.specs.declared.relations.Rel.TheVariants.{Eq}
 use Rattle.alg_terms.specs.Tree.{Tree, Lit, App, Nil, Cons, of_list, sort_of_tree, equal}
-use Rattle.alg_terms.specs.Order.{tree_same, tree_same-equal, tree_same-self}
+use Rattle.alg_terms.specs.Order.{tree_same}
+use Rattle.alg_terms.proofs.OrderLaws.{tree_same-equal, tree_same-self}
 use Rattle.alg_expr.specs.declared.ids.ExprId.{ExprId}
 use Rattle.alg_expr.specs.Ids.{tree_of, trees_at, IsIn, statement_of}
-use Rattle.alg_expr.specs.Arena.{Extends, Extends-then, GrowsBy, GrowsBy-Extends, tree_of-extends, IsIn-extends}
+use Rattle.alg_expr.specs.Arena.{Extends, GrowsBy}
+use Rattle.alg_expr.proofs.ArenaLaws.{Extends-then, GrowsBy-Extends, tree_of-extends, IsIn-extends}
 use Rattle.alg_expr.specs.Applying.{sorts_at}
-use Rattle.alg_expr.specs.Distinct.{AreDistinct, same_id-from_tree}
+use Rattle.alg_expr.specs.Distinct.{AreDistinct}
+use Rattle.alg_expr.proofs.DistinctLaws.{same_id-from_tree}
 
 -- ids tell the trees apart
 pub same-by-number : (ts : List Tree) (a b : ExprId) → AreDistinct ts → IsIn ts a → IsIn ts b → nat_eq a.index b.index ≡ tree_same (tree_of ts a) (tree_of ts b)

@@ -7,7 +7,8 @@ use Rattle.alg_terms.specs.declared.relations.Rel.TheVariants.{Eq}
 use Rattle.alg_terms.specs.Tree.{Tree, App, of_list, sort_of_tree, equal}
 use Rattle.alg_expr.specs.declared.ids.ExprId.{ExprId}
 use Rattle.alg_expr.specs.Ids.{tree_of, trees_at, statement_of}
-use Rattle.alg_expr.specs.Arena.{GrowsBy, Imports, tree_of-extends}
+use Rattle.alg_expr.specs.Arena.{GrowsBy, Imports}
+use Rattle.alg_expr.proofs.ArenaLaws.{tree_of-extends}
 use Rattle.alg_expr.specs.Applying.{arity_fits, sorts_fit, sorts_at}
 use Rattle.alg_law.specs.declared.marks.Mark.TheVariants.{Good}
 use Rattle.alg_law.specs.Declarations.{Declaration}

@@ -23,6 +23,13 @@ GivesVerdict (Err (refusal.Bad n c)) v = v ≡ BadAt n c
 GivesVerdict (Err refusal.WrongEnd) v = v ≡ EndsWrong
 GivesVerdict (Err refusal.Memory) v = ⊤
 
+-- there is a verdict: no want of memory
+abbrev pub IsAnswered : {T : Type 0} → Result T Refusal → Type 0
+IsAnswered (Ok c) = ⊤
+IsAnswered (Err (refusal.Bad n c)) = ⊤
+IsAnswered (Err refusal.WrongEnd) = ⊤
+IsAnswered (Err refusal.Memory) = ⊥
+
 -- the conclusion of a good line, or the cause of a bad one; want of memory says nothing
 abbrev pub IsJudged : List Tree → Result Stmt Fault → Concludes → Type 0
 IsJudged ts (Ok s) r = IsStatementIn ts s × (r ≡ Ok (statement_of ts s))

@@ -1,5 +1,5 @@
 -- Trees that fill patterns in prefix form, and the ids that stand for them where they can be made.
-use Rattle.std.specs.Prelude.{◌≡◌, ℕ, Bool, false, ◌||◌, nat_eq, List, [], ◌∷◌, length, take, drop, get_or, Option, Some, None, IfSome, ⊤}
+use Rattle.std.specs.Prelude.{◌≡◌, ℕ, List, [], ◌∷◌, length, take, drop, get_or, Option, Some, None, IfSome, ⊤}
 use Rattle.alg_terms.specs.declared.sorts.Sort.{Sort}
 use Rattle.alg_terms.specs.declared.sorts.Sort.TheVariants.{Nat}
 use Rattle.alg_terms.specs.Symbols.{places}
@@ -42,21 +42,3 @@ IsEntryIn ts o = IfSome o (IsIn ts)
 abbrev pub IsFilled : List Declaration → List Tree → Option Stmt → Statement → Type 0
 IsFilled ds ts None s = IsStatement ds s → ⊥
 IsFilled ds ts (Some q) s = IsStatementIn ts q × (statement_of ts q ≡ s)
-
-abbrev pub any : List Bool → Bool
-any [] = false
-any (b ∷ bs) = b || any bs
-
--- whether the letter occurs, node by node from the last
-abbrev pub put_occurs : ℕ → Node → List Bool → List Bool
-put_occurs k (node.Letter l) bs = nat_eq k l ∷ bs
-put_occurs k (node.Lit p n) bs = false ∷ bs
-put_occurs k (node.App f p) bs = any (take (length (places f)) bs) ∷ drop (length (places f)) bs
-
-abbrev pub occurs_each : ℕ → List Node → List Bool
-occurs_each k [] = []
-occurs_each k (n ∷ ns) = put_occurs k n (occurs_each k ns)
-
-abbrev pub first_bool : List Bool → Bool
-first_bool [] = false
-first_bool (b ∷ bs) = b

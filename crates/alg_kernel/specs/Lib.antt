@@ -1,9 +1,8 @@
 pub mod Answers
 pub mod Claims
 pub mod Filling
+pub mod Letters
 pub mod Lending
 pub mod Progress
 pub mod Sides
 pub mod State
-pub mod Growing
-pub mod Verdicts

@@ -8,11 +8,11 @@ ghost use Rattle.alg_proof.specs.LiteralLines.{bridge_class, bridge_from, bridge
 ghost use Rattle.alg_kernel.specs.Answers.{IsJudged};
 
 use crate::answers::Fault;
-use crate::rules::{LIMIT, build, equation};
+use crate::rules::{build, equation};
 use alg_expr::{Arena, ExprId, Memory, Sort, Stmt, Sym};
 use alg_law::{Base, Class, has};
 use alg_proof::BridgeKind;
-use alg_terms::BadCause;
+use alg_terms::{BadCause, GREATEST_LITERAL};
 
 /// The law that leads from one kind of multiple or power by a literal to another.
 pub(crate) fn bridge(
@@ -29,7 +29,7 @@ pub(crate) fn bridge(
     if !is_bridged(base, kind, arena.sort_of(e)) {
         return Err(Fault::Bad(BadCause::NoInstance));
     }
-    if n > LIMIT {
+    if n > GREATEST_LITERAL {
         return Err(Fault::Bad(BadCause::Literal));
     }
     Ok(both_sides(arena, kind, n, e)?)

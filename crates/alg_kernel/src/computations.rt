@@ -17,12 +17,12 @@ ghost use Rattle.alg_kernel.specs.Answers.{IsJudged};
 
 use crate::answers::{Fault, pass};
 use crate::relations::has_literal;
-use crate::rules::{LIMIT, build, equation};
+use crate::rules::{build, equation};
 use alg_compute::{divides, integer, natural};
 use alg_expr::{Arena, ExprId, Memory, Rel, Sort, Stmt, Sym};
 use alg_law::{Base, Class, Mark, has, mark_for_head};
 use alg_proof::ComputeHead;
-use alg_terms::BadCause;
+use alg_terms::{BadCause, GREATEST_LITERAL};
 use std::alloc::Global;
 
 /// The value of a function at numerals of a sort, or that one of two divides the other.
@@ -188,7 +188,7 @@ fn are_small(numbers: &[i128]) -> bool
     ensures { result ≡ are_small numbers.now }
 {
     for number in numbers {
-        if number.unsigned_abs() > LIMIT {
+        if number.unsigned_abs() > GREATEST_LITERAL {
             return false;
         }
     }

@@ -4,17 +4,19 @@ ghost use Rattle.alg_expr.specs.Ids.{IsIn, trees_at, statement_of, statements_of
 ghost use Rattle.alg_expr.specs.Arena.{Extends};
 ghost use Rattle.alg_expr.specs.Applying.{arity_fits, sorts_fit, sorts_at};
 ghost use Rattle.alg_proof.specs.Causes.{statements_at};
-ghost use Rattle.alg_proof.specs.Steps.{all_equations, same_sort, value_sort, cong_of, name_mark};
+ghost use Rattle.alg_proof.specs.Steps.{all_equations, cong_of, name_mark};
 ghost use Rattle.alg_proof.specs.Steps.{left_sides, right_sides};
 ghost use Rattle.alg_law.specs.WellSorted.{sorts_of};
 ghost use Rattle.alg_kernel.specs.Answers.{IsJudged, AreFound};
-ghost use Rattle.alg_kernel.specs.Sides.{left_ids, right_ids, is_same};
+ghost use Rattle.alg_kernel.specs.Sides.{left_ids, right_ids};
 
 use crate::answers::{Fault, pass};
 use crate::rules::{build, earlier, equation, is_equation};
-use alg_expr::{Arena, ExprId, Memory, Place, Sort, Stmt, Sym};
+use alg_expr::{Arena, ExprId, Memory, Sort, Stmt, Sym};
 use alg_law::{Base, Mark, mark_for_head};
+use alg_proof::value_sort;
 use alg_terms::BadCause;
+use smallvec::SmallVec;
 
 /// A bad name where a declared function isn't there.
 pub(crate) fn name_of(base: &Base, sym: Sym) -> Mark
@@ -51,7 +53,7 @@ pub(crate) fn cong(base: &Base, arena: &mut Arena, sym: Sym, parts: &[Stmt]) -> 
 {
     let lefts = lefts_of(arena, parts)?;
     let rights = rights_of(arena, parts)?;
-    over_sides(base, arena, sym, parts, &lefts, &rights)
+    over_sides(base, arena, sym, parts, lefts.as_slice(), rights.as_slice())
 }
 
 // the same, with the ids of both sides of the premises
@@ -70,7 +72,7 @@ fn over_sides(
     ensures keeps { Extends arena.old arena.new }
     ensures judged { IsJudged arena.new result (cong_of base.now sym (statements_of arena.old parts.now)) }
 {
-    match value_of(base, arena, sym, lefts) {
+    match value_sort(base, arena, sym, lefts) {
         None => Err(Fault::Bad(BadCause::Sort)),
         Some(sort) => {
             pass(mark_for_head(base, arena, sym, sort, lefts))?;
@@ -105,20 +107,20 @@ fn both(
     Ok(equation(arena, lhs, rhs))
 }
 
-fn lefts_of(arena: &Arena, parts: &[Stmt]) -> Result<Vec<ExprId>, Memory>
+fn lefts_of(arena: &Arena, parts: &[Stmt]) -> Result<SmallVec<ExprId, 4>, Memory>
     ensures { IfOk result (λ v. v.items ≡ left_ids parts.now) }
 {
-    let mut ids: Vec<ExprId> = Vec::with_capacity(arena.alloc(), parts.len())?;
+    let mut ids: SmallVec<ExprId, 4> = SmallVec::with_capacity(arena.alloc(), parts.len())?;
     for part in parts {
         ids.push(part.lhs)?;
     }
     Ok(ids)
 }
 
-fn rights_of(arena: &Arena, parts: &[Stmt]) -> Result<Vec<ExprId>, Memory>
+fn rights_of(arena: &Arena, parts: &[Stmt]) -> Result<SmallVec<ExprId, 4>, Memory>
     ensures { IfOk result (λ v. v.items ≡ right_ids parts.now) }
 {
-    let mut ids: Vec<ExprId> = Vec::with_capacity(arena.alloc(), parts.len())?;
+    let mut ids: SmallVec<ExprId, 4> = SmallVec::with_capacity(arena.alloc(), parts.len())?;
     for part in parts {
         ids.push(part.rhs)?;
     }
@@ -134,40 +136,4 @@ fn are_equations(_arena: &Arena, parts: &[Stmt]) -> bool
         }
     }
     true
-}
-
-// the sort of the value of a symbol over these arguments
-fn value_of(base: &Base, arena: &Arena, sym: Sym, args: &[ExprId]) -> Option<Sort>
-    requires { All (IsIn arena.now) args.now }
-    ensures { result ≡ value_sort base.now sym (sorts_at arena.now args.now) }
-{
-    match sym {
-        Sym::Apply(k) => match base.function(k) {
-            None => None,
-            Some(f) => Some(f.result),
-        },
-        _ => first_same(arena, sym.places(), args),
-    }
-}
-
-// the sort of the first argument that has the sort of the value
-fn first_same(arena: &Arena, places: &[Place], args: &[ExprId]) -> Option<Sort>
-    requires { All (IsIn arena.now) args.now }
-    ensures { result ≡ same_sort places.now (sorts_at arena.now args.now) }
-{
-    for (i, place) in places.iter().enumerate() {
-        if i == args.len() {
-            return None;
-        }
-        if is_same(*place) {
-            return Some(arena.sort_of(args[i]));
-        }
-    }
-    None
-}
-
-fn is_same(place: Place) -> bool
-    ensures { result ≡ is_same place }
-{
-    matches!(place, Place::Same)
 }

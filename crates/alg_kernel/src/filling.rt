@@ -14,6 +14,10 @@ ghost use Rattle.alg_terms.specs.declared.sorts.Sort.TheVariants.{Nat};
 
 use alg_expr::{Arena, ExprFault, ExprId, Memory, Sort, Stmt, Sym};
 use alg_law::{Pat, PatSort, PatStmt};
+use smallvec::SmallVec;
+
+// the trees of the patterns read so far, the first on top: those of most rows stand in place
+type Stack = SmallVec<Option<ExprId>, 8>;
 
 /// The sort of a part of a row at a sort.
 pub(crate) fn sort_at(sort: Sort, part: PatSort) -> Sort
@@ -75,13 +79,13 @@ fn build_all(
     letters: &[u8],
     sort: Sort,
     with: &[ExprId],
-) -> Result<Vec<Option<ExprId>>, Memory>
+) -> Result<Stack, Memory>
     requires with_in { All (IsIn arena.old) with.now }
     ensures keeps { Extends arena.old arena.new }
     ensures here { IfOk result (λ v. All (IsEntryIn arena.new) v.items) }
     ensures built { IfOk result (λ v. (ds : List Declaration) → AllStand ds arena.new (reverse v.items) (filled letters.now sort (trees_at arena.old with.now) nodes.now)) }
 {
-    let mut stack: Vec<Option<ExprId>> = Vec::new(arena.alloc());
+    let mut stack: Stack = SmallVec::new(arena.alloc());
     let mut i = nodes.len();
     while i > 0 {
         i -= 1;
@@ -91,7 +95,7 @@ fn build_all(
 }
 
 // takes the tree on top; where there is none, the literal 0 of ℕ
-fn take_top(arena: &mut Arena, stack: &mut Vec<Option<ExprId>>) -> Result<Option<ExprId>, Memory>
+fn take_top(arena: &mut Arena, stack: &mut Stack) -> Result<Option<ExprId>, Memory>
     requires stack_in { All (IsEntryIn arena.old) stack.old.items }
     ensures keeps { Extends arena.old arena.new }
     ensures stack_in { IfOk result (λ _. All (IsEntryIn arena.new) stack.new.items) }
@@ -107,7 +111,7 @@ fn take_top(arena: &mut Arena, stack: &mut Vec<Option<ExprId>>) -> Result<Option
 // puts the tree of a node over those of the nodes after it
 fn place(
     arena: &mut Arena,
-    stack: &mut Vec<Option<ExprId>>,
+    stack: &mut Stack,
     node: Pat,
     letters: &[u8],
     sort: Sort,
@@ -166,7 +170,7 @@ fn place_of(letters: &[u8], letter: u8) -> usize
 // takes as many trees from the top as the symbol has places, and gives the symbol over them
 fn over_top(
     arena: &mut Arena,
-    stack: &mut Vec<Option<ExprId>>,
+    stack: &mut Stack,
     sym: Sym,
     sort: Sort,
 ) -> Result<Option<ExprId>, Memory>
@@ -189,7 +193,7 @@ fn over_top(
 // the symbol over the tree on top
 fn over_first(
     arena: &mut Arena,
-    stack: &mut Vec<Option<ExprId>>,
+    stack: &mut Stack,
     sym: Sym,
     sort: Sort,
 ) -> Result<Option<ExprId>, Memory>
@@ -214,7 +218,7 @@ fn over_first(
 // the symbol over the two trees on top
 fn over_both(
     arena: &mut Arena,
-    stack: &mut Vec<Option<ExprId>>,
+    stack: &mut Stack,
     sym: Sym,
     sort: Sort,
 ) -> Result<Option<ExprId>, Memory>

@@ -1,13 +1,12 @@
-ghost use Rattle.std.specs.Prelude.{◌≡◌, IfOk, Ok};
+ghost use Rattle.std.specs.Prelude.{Ok};
 ghost use Rattle.alg_terms.specs.declared.causes.BadCause.TheVariants as cause;
-ghost use Rattle.alg_expr.specs.Ids.{statement_of, IsStatementIn};
 ghost use Rattle.alg_expr.specs.Arena.{Extends};
 ghost use Rattle.alg_law.specs.Declarations.{hypotheses};
 ghost use Rattle.alg_proof.specs.Causes.{line_at, or_cause};
 ghost use Rattle.alg_kernel.specs.Answers.{IsJudged};
 
 use crate::answers::Fault;
-use alg_expr::{Arena, Memory, Stmt};
+use alg_expr::{Arena, Stmt};
 use alg_law::Base;
 use alg_terms::BadCause;
 
@@ -17,24 +16,7 @@ pub(crate) fn hypothesis(base: &Base, arena: &mut Arena, number: u128) -> Result
     ensures judged { IsJudged arena.new result (or_cause (line_at (hypotheses base.now) number) cause.Reference Ok) }
 {
     match base.hypothesis(number) {
-        Some(given) => Ok(bring(arena, given.arena, given.stmt)?),
+        Some(given) => Ok(arena.import_statement(given.arena, given.stmt)?),
         None => Err(Fault::Bad(BadCause::Reference)),
     }
-}
-
-// a copy of a statement of another arena
-fn bring(arena: &mut Arena, from: &Arena, s: Stmt) -> Result<Stmt, Memory>
-    requires { IsStatementIn from.now s }
-    ensures keeps { Extends arena.old arena.new }
-    ensures here { IfOk result (λ q. IsStatementIn arena.new q) }
-    ensures same { IfOk result (λ q. statement_of arena.new q ≡ statement_of from.now s) }
-{
-    let lhs = arena.import(from, s.lhs)?;
-    let rhs = arena.import(from, s.rhs)?;
-    Ok(Stmt {
-        rel: s.rel,
-        sort: s.sort,
-        lhs,
-        rhs,
-    })
 }

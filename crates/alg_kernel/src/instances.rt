@@ -35,8 +35,9 @@ pub(crate) fn instance(
     ensures keeps { Extends arena.old arena.new }
     ensures judged { IsJudged arena.new result (instance_of base.now (row_of row.now) sort (trees_at arena.old with.now) (statements_of arena.old lines.now)) }
 {
-    let letters = letters_of(arena.alloc(), row)?;
-    if !letters_match(arena, sort, &letters, with)
+    let found = letters_of(arena.alloc(), row)?;
+    let letters = found.as_slice();
+    if !letters_match(arena, sort, letters, with)
         || !premise_sorts_match(arena, sort, row.premises, lines)
         || !sort_allowed(sort, row.needs)
     {
@@ -45,10 +46,10 @@ pub(crate) fn instance(
     if !classes_there(base, sort, row.needs) {
         return Err(Fault::Bad(BadCause::NoInstance));
     }
-    if !premises_hold(base, arena, &letters, sort, with, row.premises, lines)? {
+    if !premises_hold(base, arena, letters, sort, with, row.premises, lines)? {
         return Err(Fault::Bad(BadCause::Shape));
     }
-    match fill(arena, &row.conclusion, &letters, sort, with)? {
+    match fill(arena, &row.conclusion, letters, sort, with)? {
         Some(s) => Ok(s),
         None => unreachable!(),
     }

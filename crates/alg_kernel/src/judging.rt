@@ -30,7 +30,7 @@ use crate::instances::instance;
 use crate::relations::relation;
 use crate::rules::{earlier, equation, product, subst, sum, symm, trans};
 use alg_expr::{Arena, ExprId, Memory, Sort, Stmt, Sym};
-use alg_law::{Base, Mark, law_named, mark_for, mark_for_sort, worse_of};
+use alg_law::{Base, Mark, mark_for, mark_for_sort, worse_of};
 use alg_proof::{ComputeHead, Line, RowName};
 use alg_terms::BadCause;
 
@@ -238,7 +238,7 @@ fn law_line(
     ensures judged { IsJudged arena.new result (row_line grounds.now.base.now law_table (statements_of arena.old done.now) name.now sort (trees_at arena.old with.now) from.now) }
 {
     let lines = premises(arena, done, from)?;
-    match law_named(name.as_str()) {
+    match grounds.lemmas.law(name) {
         Some(law) => instance(grounds.base, arena, law, sort, with, &lines),
         None => Err(Fault::Bad(BadCause::Name)),
     }

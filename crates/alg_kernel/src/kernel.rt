@@ -10,7 +10,7 @@ ghost use Rattle.alg_proof.specs.LemmaRows.{rows_of};
 ghost use Rattle.alg_proof.specs.Steps.{Theory, conclude, conclude_named, step_mark, compute_mark};
 ghost use Rattle.alg_proof.specs.Valid.{verdict, verdict_from};
 ghost use Rattle.alg_proof.specs.Admissible.{AllFine, IsTheory, Follows};
-ghost use Rattle.alg_kernel.specs.Answers.{IsFed, GivesVerdict};
+ghost use Rattle.alg_kernel.specs.Answers.{IsFed, GivesVerdict, IsAnswered};
 ghost use Rattle.alg_kernel.specs.Claims.{HoldsWithoutGiven};
 ghost use Rattle.alg_kernel.specs.Progress.{outcome};
 ghost use Rattle.alg_kernel.specs.State.{theory_of, progress_of, IsGivenIn, IsSound, IsFresh, Answers, AnswersAll};
@@ -114,11 +114,13 @@ impl<'a> Kernel<'a> {
         Ok(())
     }
 
-    /// Whether the last line concludes the goal. After a bad line the answer is that line.
+    /// Whether the last line concludes the goal. After a bad line the answer is that line. It takes no memory, so `Memory`
+    /// is never the answer.
     pub fn finish(self, arena: &Arena, goal: Stmt) -> Result<Checked, Refusal>
         requires sound { IsSound arena.now self }
         requires goal_in { IsStatementIn arena.now goal }
         ensures verdict { GivesVerdict result (outcome (progress_of arena.now self.entry) (statement_of arena.now goal)) }
+        ensures answered { IsAnswered result }
         ensures derivable { OnOk result (Follows (theory_of arena.now self.entry.grounds) (statement_of arena.now goal)) }
         ensures holds { OnOk result (HoldsWithoutGiven self.entry.grounds.base.now (option_map (statement_of arena.now) self.entry.grounds.given) (statement_of arena.now goal)) }
         ensures goal { IfOk result (λ c. c.goal ≡ goal) }
@@ -131,6 +133,7 @@ impl<'a> Kernel<'a> {
         requires done_in { All (IsStatementIn arena.now) self.now.done.items }
         requires goal_in { IsStatementIn arena.now goal }
         ensures verdict { GivesVerdict result (outcome (progress_of arena.now self.now) (statement_of arena.now goal)) }
+        ensures answered { IsAnswered result }
         ensures goal { IfOk result (λ c. c.goal ≡ goal) }
     {
         match self.bad {
@@ -145,6 +148,7 @@ fn last_is(arena: &Arena, done: &[Stmt], goal: Stmt) -> Result<Checked, Refusal>
     requires done_in { All (IsStatementIn arena.now) done.now }
     requires goal_in { IsStatementIn arena.now goal }
     ensures verdict { GivesVerdict result (ends_in (slice_get (statements_of arena.now done.now) (length (statements_of arena.now done.now) - 1)) (statement_of arena.now goal)) }
+    ensures answered { IsAnswered result }
     ensures goal { IfOk result (λ c. c.goal ≡ goal) }
 {
     match done.last() {

@@ -95,7 +95,7 @@ impl Proved {
         ensures { IfOk result (λ p. p ≡ claim_of base from.now given goal) }
     {
         let mut arena = Arena::new(alloc)?;
-        let goal = copied(&mut arena, from, goal)?;
+        let goal = arena.import_statement(from, goal)?;
         let given = copied_given(&mut arena, from, given)?;
         Ok(Proved {
             base,
@@ -146,23 +146,6 @@ impl Proved {
     }
 }
 
-// the statement in this arena
-fn copied(arena: &mut Arena, from: &Arena, stmt: Stmt) -> Result<Stmt, Memory>
-    requires { IsStatementIn from.now stmt }
-    ensures keeps { Extends arena.old arena.new }
-    ensures here { IfOk result (IsStatementIn arena.new) }
-    ensures same { IfOk result (λ s. statement_of arena.new s ≡ statement_of from.now stmt) }
-{
-    let lhs = arena.import(from, stmt.lhs)?;
-    let rhs = arena.import(from, stmt.rhs)?;
-    Ok(Stmt {
-        rel: stmt.rel,
-        sort: stmt.sort,
-        lhs,
-        rhs,
-    })
-}
-
 // the given statement in this arena
 fn copied_given(
     arena: &mut Arena,
@@ -175,7 +158,7 @@ fn copied_given(
     ensures same { IfOk result (λ g. option_map (statement_of arena.new) g ≡ option_map (statement_of from.now) given) }
 {
     match given {
-        Some(stmt) => Ok(Some(copied(arena, from, stmt)?)),
+        Some(stmt) => Ok(Some(arena.import_statement(from, stmt)?)),
         None => Ok(None),
     }
 }

@@ -3,15 +3,13 @@ ghost use Rattle.alg_terms.specs.Tree.{Lit};
 ghost use Rattle.alg_expr.specs.Ids.{statement_of, IsStatementIn};
 ghost use Rattle.alg_expr.specs.Arena.{Extends};
 ghost use Rattle.alg_law.specs.Derivations.{related};
-ghost use Rattle.alg_law.specs.WellSorted.{literal_class};
 ghost use Rattle.alg_proof.specs.LiteralLines.{relation_class, has_literal, relation_holds, relation_of};
 ghost use Rattle.alg_kernel.specs.Answers.{IsJudged};
 
 use crate::answers::Fault;
-use crate::rules::LIMIT;
 use alg_expr::{Arena, Memory, Rel, Sort, Stmt};
-use alg_law::{Base, Class, has};
-use alg_terms::BadCause;
+use alg_law::{Base, Class, has, literal_class};
+use alg_terms::{BadCause, GREATEST_LITERAL};
 
 /// `m ≠ n`, `m < n` or `m ≤ n` for two literals, where it holds.
 pub(crate) fn relation(
@@ -31,7 +29,7 @@ pub(crate) fn relation(
     {
         return Err(Fault::Bad(BadCause::NoInstance));
     }
-    if m > LIMIT || n > LIMIT || !holds(rel, m, n) {
+    if m > GREATEST_LITERAL || n > GREATEST_LITERAL || !holds(rel, m, n) {
         return Err(Fault::Bad(BadCause::Literal));
     }
     Ok(related(arena, rel, sort, m, n)?)
@@ -72,19 +70,7 @@ fn relates_literals(base: &Base, rel: Rel, sort: Sort) -> bool
 pub(crate) fn has_literal(base: &Base, sort: Sort, value: u128) -> bool
     ensures { result ≡ has_literal base.now sort value }
 {
-    has(base, sort, class_of(value))
-}
-
-fn class_of(value: u128) -> Class
-    ensures { result ≡ literal_class value }
-{
-    if value == 0 {
-        Class::AddMonoid
-    } else if value == 1 {
-        Class::Monoid
-    } else {
-        Class::Semiring
-    }
+    has(base, sort, literal_class(value))
 }
 
 fn holds(rel: Rel, m: u128, n: u128) -> bool

@@ -15,10 +15,7 @@ ghost use Rattle.alg_kernel.specs.Answers.{IsJudged, IsFound};
 use crate::answers::Fault;
 use alg_expr::{Arena, ExprFault, ExprId, Memory, Rel, Sort, Stmt, Sym};
 use alg_law::{Base, Class, has};
-use alg_terms::BadCause;
-
-/// The greatest literal, 2^127 - 1.
-pub(crate) const LIMIT: u128 = 0x7fff_ffff_ffff_ffff_ffff_ffff_ffff_ffff;
+use alg_terms::{BadCause, GREATEST_LITERAL};
 
 /// Whether two ids stand for the same tree. No tree of an arena stands twice, so their numbers tell.
 pub(crate) fn same_tree(arena: &Arena, a: ExprId, b: ExprId) -> bool
@@ -202,7 +199,7 @@ pub(crate) fn sum(
     if !is_semiring(base, sort) {
         return Err(Fault::Bad(BadCause::NoInstance));
     }
-    if m > LIMIT || n > LIMIT || m + n > LIMIT {
+    if m > GREATEST_LITERAL || n > GREATEST_LITERAL || m + n > GREATEST_LITERAL {
         return Err(Fault::Bad(BadCause::Literal));
     }
     Ok(literals(arena, Sym::Add, sort, m, n, m + n)?)
@@ -222,11 +219,18 @@ pub(crate) fn product(
     if !is_semiring(base, sort) {
         return Err(Fault::Bad(BadCause::NoInstance));
     }
-    if m > LIMIT || n > LIMIT {
+    if m > GREATEST_LITERAL || n > GREATEST_LITERAL {
         return Err(Fault::Bad(BadCause::Literal));
     }
     match m.checked_mul(n) {
-        Some(value) if value <= LIMIT => Ok(literals(arena, Sym::Mul, sort, m, n, value)?),
+        Some(value) if value <= GREATEST_LITERAL => Ok(literals(
+            arena,
+            Sym::Mul,
+            sort,
+            m,
+            n,
+            value,
+        )?),
         _ => Err(Fault::Bad(BadCause::Literal)),
     }
 }

@@ -12,13 +12,14 @@ use Rattle.alg_law.specs.Derivations.{Derivable}
 use Rattle.alg_law.specs.Following.{IsWellFormed}
 use Rattle.alg_law.specs.Having.{has_class}
 use Rattle.alg_law.specs.IntegerBases.{IsIntegerBase}
-use Rattle.alg_law.specs.IntegerValues.{gcd_within, common_multiple, symbol_value}
-use Rattle.alg_law.specs.NoFalseLaw.{derivable-true}
+use Rattle.alg_num.specs.Reduced.{divisor_by_steps, greatest_divisor}
+use Rattle.alg_law.specs.IntegerValues.{symbol_value}
+use Rattle.alg_law.proofs.NoFalseLaw.{derivable-true}
 use Rattle.alg_law.specs.Valuations.{Valuation, IsResult, IsValuation}
 use Rattle.alg_law.specs.WellSorted.{function_of}
 
 common : (symbol_value Gcd (pos 12 ∷ pos 18 ∷ []) ≡ pos 6) × (symbol_value Gcd (pos 0 ∷ pos 5 ∷ []) ≡ pos 5) × (symbol_value Lcm (pos 4 ∷ pos 6 ∷ []) ≡ pos 12) × (symbol_value Lcm (pos 0 ∷ pos 6 ∷ []) ≡ pos 0)
-unfolding gcd_within common_multiple
+unfolding divisor_by_steps greatest_divisor
 common = (refl, refl, refl, refl)
 
 -- -7 / 2 = -4, -7 % 2 = 1, 7 / -2 = -3, -7 / -2 = 4, 7 / 0 = 0, -7 % 0 = -7

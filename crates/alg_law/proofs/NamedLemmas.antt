@@ -3,7 +3,8 @@ use Rattle.std.specs.Prelude.{◌≡◌, ℕ, zero, suc, ◌+◌, List, [], ◌�
 use Rattle.std.proofs.Common.{ap, sym, ◌∙◌, add-one}
 use Rattle.alg_law.specs.Rows.{Row}
 use Rattle.alg_law.specs.Laws.{rows_in, row_named}
-use Rattle.alg_law.specs.RowNames.{first_some, row_named-append}
+use Rattle.alg_law.specs.RowNames.{first_some}
+use Rattle.alg_law.proofs.RowNameLaws.{row_named-append}
 
 by_suc : {X : Type 0} (f : X → List Row) (d : X) (n : List ℕ) → f d ≡ [] → (xs : List X) (i : ℕ)
     → row_named (rows_in (map f (drop i xs))) n ≡ first_some (row_named (f (get_or xs i d)) n) (row_named (rows_in (map f (drop (suc i) xs))) n)

@@ -1,49 +1,18 @@
 -- The integer that a tree denotes when every sort is read as the integers, with ℕ as those from 0 up.
-use Rattle.std.specs.Prelude.{ℕ, zero, suc, ◌-◌, ◌*◌, ◌%◌, Bool, ◌&&◌, if◌then◌else◌, nat_eq, List, [], ◌∷◌, ℤ, pos, negsuc, ◌+ℤ◌, ◌-ℤ◌, ◌*ℤ◌, neg_ℤ, unsigned_abs}
-use Rattle.std.specs.Int.{int_pow, int_min, int_max, int_div_euclid, int_rem_euclid}
+use Rattle.std.specs.Prelude.{ℕ, ◌-◌, List, [], ◌∷◌, ℤ, pos, negsuc, ◌+ℤ◌, ◌-ℤ◌, ◌*ℤ◌, neg_ℤ, unsigned_abs}
+use Rattle.std.specs.Int.{int_pow, int_min, int_max}
+use Rattle.alg_num.specs.Reduced.{greatest_divisor}
 use Rattle.alg_terms.specs.declared.symbols.Sym.{Sym}
 use Rattle.alg_terms.specs.declared.symbols.Sym.TheVariants.{Add, Mul, Neg, Sub, Npow, Nsmul, Zsmul, Abs, Min, Max, NatSub, IDiv, Mod, Gcd, Lcm, Fact, Choose, Fib, Apply}
 use Rattle.alg_terms.specs.Tree.{Tree, Lit, Var, App, Trees, Nil, Cons}
-use Rattle.alg_law.specs.LeanFunctions.{natural_remainder, factorial, choose, fibonacci}
+use Rattle.alg_law.specs.Computing.{least_multiple, integer_quotient, integer_remainder}
+use Rattle.alg_law.specs.LeanFunctions.{factorial, choose, fibonacci}
 use Rattle.alg_law.specs.Valuations.{Valuation, result_at}
 
 -- an integer as a natural number; it is 0 for one below 0
 abbrev pub natural : ℤ → ℕ
 natural (pos n) = n
 natural (negsuc n) = 0
-
--- `Nat.gcd`, by Euclid's remainders, of which there are at most as many as the first number says
-unfoldable pub gcd_within : ℕ → ℕ → ℕ → ℕ
-gcd_within n a zero = a
-gcd_within zero a (suc b) = a
-gcd_within (suc n) a (suc b) = gcd_within n (suc b) (a % suc b)
-
-abbrev pub gcd : ℕ → ℕ → ℕ
-gcd a b = gcd_within b a b
-
-abbrev pub divides : ℕ → ℕ → Bool
-divides a k = nat_eq (natural_remainder k a) 0
-
--- the first of the n numbers from k on that a and b divide, or 0 where there is none
-unfoldable pub common_multiple : ℕ → ℕ → ℕ → ℕ → ℕ
-common_multiple zero k a b = 0
-common_multiple (suc n) k a b = if divides a k && divides b k then k else common_multiple n (suc k) a b
-
--- `Nat.lcm`: their product is a common multiple, so the least one above 0 is among the numbers up to it
-abbrev pub lcm : ℕ → ℕ → ℕ
-lcm a b = common_multiple (a * b) 1 a b
-
--- `Int.ediv`: rounded so that the remainder is not below 0, and 0 over 0
-abbrev pub integer_quotient : ℤ → ℤ → ℤ
-integer_quotient a (pos zero) = pos 0
-integer_quotient a (pos (suc b)) = int_div_euclid a (pos (suc b))
-integer_quotient a (negsuc b) = int_div_euclid a (negsuc b)
-
--- `Int.emod`: the remainder of that division, and a by 0
-abbrev pub integer_remainder : ℤ → ℤ → ℤ
-integer_remainder a (pos zero) = a
-integer_remainder a (pos (suc b)) = int_rem_euclid a (pos (suc b))
-integer_remainder a (negsuc b) = int_rem_euclid a (negsuc b)
 
 -- a function of one integer, or of two; it is 0 at another number of them
 abbrev pub at_one : (ℤ → ℤ) → List ℤ → ℤ
@@ -72,8 +41,8 @@ symbol_value Max = at_two (λ x y. int_max x y)
 symbol_value NatSub = at_two (λ x y. pos (natural x - natural y))
 symbol_value IDiv = at_two (λ x y. integer_quotient x y)
 symbol_value Mod = at_two (λ x y. integer_remainder x y)
-symbol_value Gcd = at_two (λ x y. pos (gcd (natural x) (natural y)))
-symbol_value Lcm = at_two (λ x y. pos (lcm (natural x) (natural y)))
+symbol_value Gcd = at_two (λ x y. pos (greatest_divisor (natural x) (natural y)))
+symbol_value Lcm = at_two (λ x y. pos (least_multiple (natural x) (natural y)))
 symbol_value Fact = at_one (λ x. pos (factorial (natural x)))
 symbol_value Choose = at_two (λ x y. pos (choose (natural x) (natural y)))
 symbol_value Fib = at_one (λ x. pos (fibonacci (natural x)))

@@ -11,73 +11,85 @@ use crate::patterns::{PatSort, PatStmt};
 use crate::rows::{Law, Need};
 use alg_terms::Rel;
 
+/// a + b + c = a + (b + c)
+pub const ADD_ASSOC: Law = Law {
+    name: "add_assoc",
+    needs: &[Need::Class(Class::AddMonoid)],
+    premises: &[],
+    conclusion: PatStmt {
+        rel: Rel::Eq,
+        sort: PatSort::S,
+        nodes: &[PLUS, PLUS, A, B, C, PLUS, A, PLUS, B, C],
+    },
+};
+
+/// 0 + a = a
+pub const ZERO_ADD: Law = Law {
+    name: "zero_add",
+    needs: &[Need::Class(Class::AddMonoid)],
+    premises: &[],
+    conclusion: PatStmt {
+        rel: Rel::Eq,
+        sort: PatSort::S,
+        nodes: &[PLUS, ZERO, A, A],
+    },
+};
+
+/// a + 0 = a
+pub const ADD_ZERO: Law = Law {
+    name: "add_zero",
+    needs: &[Need::Class(Class::AddMonoid)],
+    premises: &[],
+    conclusion: PatStmt {
+        rel: Rel::Eq,
+        sort: PatSort::S,
+        nodes: &[PLUS, A, ZERO, A],
+    },
+};
+
+/// a + b = b + a
+pub const ADD_COMM: Law = Law {
+    name: "add_comm",
+    needs: &[Need::Class(Class::AddCommMonoid)],
+    premises: &[],
+    conclusion: PatStmt {
+        rel: Rel::Eq,
+        sort: PatSort::S,
+        nodes: &[PLUS, A, B, PLUS, B, A],
+    },
+};
+
+/// -a + a = 0
+pub const NEG_ADD_CANCEL: Law = Law {
+    name: "neg_add_cancel",
+    needs: &[Need::Class(Class::AddGroup)],
+    premises: &[],
+    conclusion: PatStmt {
+        rel: Rel::Eq,
+        sort: PatSort::S,
+        nodes: &[PLUS, NEGATIVE, A, A, ZERO],
+    },
+};
+
+/// a - b = a + -b
+pub const SUB_EQ_ADD_NEG: Law = Law {
+    name: "sub_eq_add_neg",
+    needs: &[Need::Class(Class::AddGroup)],
+    premises: &[],
+    conclusion: PatStmt {
+        rel: Rel::Eq,
+        sort: PatSort::S,
+        nodes: &[MINUS, A, B, PLUS, A, NEGATIVE, B],
+    },
+};
+
 static SUMS: [Law; 6] = [
-    // a + b + c = a + (b + c)
-    Law {
-        name: "add_assoc",
-        needs: &[Need::Class(Class::AddMonoid)],
-        premises: &[],
-        conclusion: PatStmt {
-            rel: Rel::Eq,
-            sort: PatSort::S,
-            nodes: &[PLUS, PLUS, A, B, C, PLUS, A, PLUS, B, C],
-        },
-    },
-    // 0 + a = a
-    Law {
-        name: "zero_add",
-        needs: &[Need::Class(Class::AddMonoid)],
-        premises: &[],
-        conclusion: PatStmt {
-            rel: Rel::Eq,
-            sort: PatSort::S,
-            nodes: &[PLUS, ZERO, A, A],
-        },
-    },
-    // a + 0 = a
-    Law {
-        name: "add_zero",
-        needs: &[Need::Class(Class::AddMonoid)],
-        premises: &[],
-        conclusion: PatStmt {
-            rel: Rel::Eq,
-            sort: PatSort::S,
-            nodes: &[PLUS, A, ZERO, A],
-        },
-    },
-    // a + b = b + a
-    Law {
-        name: "add_comm",
-        needs: &[Need::Class(Class::AddCommMonoid)],
-        premises: &[],
-        conclusion: PatStmt {
-            rel: Rel::Eq,
-            sort: PatSort::S,
-            nodes: &[PLUS, A, B, PLUS, B, A],
-        },
-    },
-    // -a + a = 0
-    Law {
-        name: "neg_add_cancel",
-        needs: &[Need::Class(Class::AddGroup)],
-        premises: &[],
-        conclusion: PatStmt {
-            rel: Rel::Eq,
-            sort: PatSort::S,
-            nodes: &[PLUS, NEGATIVE, A, A, ZERO],
-        },
-    },
-    // a - b = a + -b
-    Law {
-        name: "sub_eq_add_neg",
-        needs: &[Need::Class(Class::AddGroup)],
-        premises: &[],
-        conclusion: PatStmt {
-            rel: Rel::Eq,
-            sort: PatSort::S,
-            nodes: &[MINUS, A, B, PLUS, A, NEGATIVE, B],
-        },
-    },
+    ADD_ASSOC,
+    ZERO_ADD,
+    ADD_ZERO,
+    ADD_COMM,
+    NEG_ADD_CANCEL,
+    SUB_EQ_ADD_NEG,
 ];
 
 /// The laws of sums and negations.
@@ -87,189 +99,200 @@ pub fn sum_laws() -> &'static [Law]
     &SUMS
 }
 
+/// 0 • a = 0
+pub const ZERO_NSMUL: Law = Law {
+    name: "zero_nsmul",
+    needs: &[Need::Class(Class::AddMonoid)],
+    premises: &[],
+    conclusion: PatStmt {
+        rel: Rel::Eq,
+        sort: PatSort::S,
+        nodes: &[MULTIPLE, NATURAL_ZERO, A, ZERO],
+    },
+};
+
+/// (n + 1) • a = n • a + a
+pub const SUCC_NSMUL: Law = Law {
+    name: "succ_nsmul",
+    needs: &[Need::Class(Class::AddMonoid)],
+    premises: &[],
+    conclusion: PatStmt {
+        rel: Rel::Eq,
+        sort: PatSort::S,
+        nodes: &[
+            MULTIPLE,
+            NATURAL_PLUS,
+            N,
+            NATURAL_ONE,
+            A,
+            PLUS,
+            MULTIPLE,
+            N,
+            A,
+            A,
+        ],
+    },
+};
+
+/// (m + n) • a = m • a + n • a
+pub const ADD_NSMUL: Law = Law {
+    name: "add_nsmul",
+    needs: &[Need::Class(Class::AddMonoid)],
+    premises: &[],
+    conclusion: PatStmt {
+        rel: Rel::Eq,
+        sort: PatSort::S,
+        nodes: &[
+            MULTIPLE,
+            NATURAL_PLUS,
+            M,
+            N,
+            A,
+            PLUS,
+            MULTIPLE,
+            M,
+            A,
+            MULTIPLE,
+            N,
+            A,
+        ],
+    },
+};
+
+/// (m * n) • a = m • n • a
+pub const MUL_NSMUL: Law = Law {
+    name: "mul_nsmul",
+    needs: &[Need::Class(Class::AddMonoid)],
+    premises: &[],
+    conclusion: PatStmt {
+        rel: Rel::Eq,
+        sort: PatSort::S,
+        nodes: &[
+            MULTIPLE,
+            NATURAL_TIMES,
+            M,
+            N,
+            A,
+            MULTIPLE,
+            M,
+            MULTIPLE,
+            N,
+            A,
+        ],
+    },
+};
+
+/// n • (a + b) = n • a + n • b
+pub const NSMUL_ADD: Law = Law {
+    name: "nsmul_add",
+    needs: &[Need::Class(Class::AddCommMonoid)],
+    premises: &[],
+    conclusion: PatStmt {
+        rel: Rel::Eq,
+        sort: PatSort::S,
+        nodes: &[
+            MULTIPLE, N, PLUS, A, B, PLUS, MULTIPLE, N, A, MULTIPLE, N, B,
+        ],
+    },
+};
+
+/// (-i) • a = -(i • a)
+pub const NEG_ZSMUL: Law = Law {
+    name: "neg_zsmul",
+    needs: &[Need::Class(Class::AddGroup)],
+    premises: &[],
+    conclusion: PatStmt {
+        rel: Rel::Eq,
+        sort: PatSort::S,
+        nodes: &[
+            INTEGER_MULTIPLE,
+            INTEGER_NEGATIVE,
+            I,
+            A,
+            NEGATIVE,
+            INTEGER_MULTIPLE,
+            I,
+            A,
+        ],
+    },
+};
+
+/// (i + j) • a = i • a + j • a
+pub const ADD_ZSMUL: Law = Law {
+    name: "add_zsmul",
+    needs: &[Need::Class(Class::AddGroup)],
+    premises: &[],
+    conclusion: PatStmt {
+        rel: Rel::Eq,
+        sort: PatSort::S,
+        nodes: &[
+            INTEGER_MULTIPLE,
+            INTEGER_PLUS,
+            I,
+            J,
+            A,
+            PLUS,
+            INTEGER_MULTIPLE,
+            I,
+            A,
+            INTEGER_MULTIPLE,
+            J,
+            A,
+        ],
+    },
+};
+
+/// (i * j) • a = i • j • a
+pub const MUL_ZSMUL: Law = Law {
+    name: "mul_zsmul",
+    needs: &[Need::Class(Class::AddGroup)],
+    premises: &[],
+    conclusion: PatStmt {
+        rel: Rel::Eq,
+        sort: PatSort::S,
+        nodes: &[
+            INTEGER_MULTIPLE,
+            INTEGER_TIMES,
+            I,
+            J,
+            A,
+            INTEGER_MULTIPLE,
+            I,
+            INTEGER_MULTIPLE,
+            J,
+            A,
+        ],
+    },
+};
+
+/// i • (a + b) = i • a + i • b
+pub const ZSMUL_ADD: Law = Law {
+    name: "zsmul_add",
+    needs: &[Need::Class(Class::AddCommGroup)],
+    premises: &[],
+    conclusion: PatStmt {
+        rel: Rel::Eq,
+        sort: PatSort::S,
+        nodes: &[
+            INTEGER_MULTIPLE,
+            I,
+            PLUS,
+            A,
+            B,
+            PLUS,
+            INTEGER_MULTIPLE,
+            I,
+            A,
+            INTEGER_MULTIPLE,
+            I,
+            B,
+        ],
+    },
+};
+
 static MULTIPLES: [Law; 9] = [
-    // 0 • a = 0
-    Law {
-        name: "zero_nsmul",
-        needs: &[Need::Class(Class::AddMonoid)],
-        premises: &[],
-        conclusion: PatStmt {
-            rel: Rel::Eq,
-            sort: PatSort::S,
-            nodes: &[MULTIPLE, NATURAL_ZERO, A, ZERO],
-        },
-    },
-    // (n + 1) • a = n • a + a
-    Law {
-        name: "succ_nsmul",
-        needs: &[Need::Class(Class::AddMonoid)],
-        premises: &[],
-        conclusion: PatStmt {
-            rel: Rel::Eq,
-            sort: PatSort::S,
-            nodes: &[
-                MULTIPLE,
-                NATURAL_PLUS,
-                N,
-                NATURAL_ONE,
-                A,
-                PLUS,
-                MULTIPLE,
-                N,
-                A,
-                A,
-            ],
-        },
-    },
-    // (m + n) • a = m • a + n • a
-    Law {
-        name: "add_nsmul",
-        needs: &[Need::Class(Class::AddMonoid)],
-        premises: &[],
-        conclusion: PatStmt {
-            rel: Rel::Eq,
-            sort: PatSort::S,
-            nodes: &[
-                MULTIPLE,
-                NATURAL_PLUS,
-                M,
-                N,
-                A,
-                PLUS,
-                MULTIPLE,
-                M,
-                A,
-                MULTIPLE,
-                N,
-                A,
-            ],
-        },
-    },
-    // (m * n) • a = m • n • a
-    Law {
-        name: "mul_nsmul",
-        needs: &[Need::Class(Class::AddMonoid)],
-        premises: &[],
-        conclusion: PatStmt {
-            rel: Rel::Eq,
-            sort: PatSort::S,
-            nodes: &[
-                MULTIPLE,
-                NATURAL_TIMES,
-                M,
-                N,
-                A,
-                MULTIPLE,
-                M,
-                MULTIPLE,
-                N,
-                A,
-            ],
-        },
-    },
-    // n • (a + b) = n • a + n • b
-    Law {
-        name: "nsmul_add",
-        needs: &[Need::Class(Class::AddCommMonoid)],
-        premises: &[],
-        conclusion: PatStmt {
-            rel: Rel::Eq,
-            sort: PatSort::S,
-            nodes: &[
-                MULTIPLE, N, PLUS, A, B, PLUS, MULTIPLE, N, A, MULTIPLE, N, B,
-            ],
-        },
-    },
-    // (-i) • a = -(i • a)
-    Law {
-        name: "neg_zsmul",
-        needs: &[Need::Class(Class::AddGroup)],
-        premises: &[],
-        conclusion: PatStmt {
-            rel: Rel::Eq,
-            sort: PatSort::S,
-            nodes: &[
-                INTEGER_MULTIPLE,
-                INTEGER_NEGATIVE,
-                I,
-                A,
-                NEGATIVE,
-                INTEGER_MULTIPLE,
-                I,
-                A,
-            ],
-        },
-    },
-    // (i + j) • a = i • a + j • a
-    Law {
-        name: "add_zsmul",
-        needs: &[Need::Class(Class::AddGroup)],
-        premises: &[],
-        conclusion: PatStmt {
-            rel: Rel::Eq,
-            sort: PatSort::S,
-            nodes: &[
-                INTEGER_MULTIPLE,
-                INTEGER_PLUS,
-                I,
-                J,
-                A,
-                PLUS,
-                INTEGER_MULTIPLE,
-                I,
-                A,
-                INTEGER_MULTIPLE,
-                J,
-                A,
-            ],
-        },
-    },
-    // (i * j) • a = i • j • a
-    Law {
-        name: "mul_zsmul",
-        needs: &[Need::Class(Class::AddGroup)],
-        premises: &[],
-        conclusion: PatStmt {
-            rel: Rel::Eq,
-            sort: PatSort::S,
-            nodes: &[
-                INTEGER_MULTIPLE,
-                INTEGER_TIMES,
-                I,
-                J,
-                A,
-                INTEGER_MULTIPLE,
-                I,
-                INTEGER_MULTIPLE,
-                J,
-                A,
-            ],
-        },
-    },
-    // i • (a + b) = i • a + i • b
-    Law {
-        name: "zsmul_add",
-        needs: &[Need::Class(Class::AddCommGroup)],
-        premises: &[],
-        conclusion: PatStmt {
-            rel: Rel::Eq,
-            sort: PatSort::S,
-            nodes: &[
-                INTEGER_MULTIPLE,
-                I,
-                PLUS,
-                A,
-                B,
-                PLUS,
-                INTEGER_MULTIPLE,
-                I,
-                A,
-                INTEGER_MULTIPLE,
-                I,
-                B,
-            ],
-        },
-    },
+    ZERO_NSMUL, SUCC_NSMUL, ADD_NSMUL, MUL_NSMUL, NSMUL_ADD, NEG_ZSMUL, ADD_ZSMUL, MUL_ZSMUL,
+    ZSMUL_ADD,
 ];
 
 /// The laws of multiples by numbers of ℕ and ℤ.

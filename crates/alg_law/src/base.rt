@@ -3,7 +3,7 @@ ghost use Rattle.alg_law.specs.Declarations.{declaration_of, declarations_of, hy
 ghost use Rattle.alg_law.specs.Following.{MayFollow, AllMayFollow, IsWellFormed};
 ghost use Rattle.alg_law.specs.Having.{has_class, instances_give, Has};
 ghost use Rattle.alg_law.specs.Lawful.{IsLawful};
-ghost use Rattle.alg_law.specs.Looking.{IsSignature};
+ghost use Rattle.alg_law.specs.Signatures.{IsSignature};
 ghost use Rattle.alg_law.specs.WellSorted.{is_type, variable_of, function_of};
 ghost use Rattle.alg_law.specs.Lending.{IsLent, IsGiven};
 ghost use Rattle.alg_law.specs.Prefixes.{line_at};
@@ -75,6 +75,7 @@ impl Base {
         requires fit { AllMayFollow (take prefix shared.now) (declarations_of from.now local.now) }
         ensures { IfOk result (λ b. b ≡ take prefix shared.now ++ declarations_of from.now local.now) }
     {
+        // says that there are fewer than 2^32 of them, and that each may follow the ones before it
         let _declarations = shared.len();
         let given = shared.declared().count(prefix);
         let mut copies = Copies::new(alloc)?;
@@ -90,7 +91,8 @@ impl Base {
     /// How many declarations there are.
     ///
     /// Each may follow the ones before it. So a sort with CharZero has Semiring, one with IsStrictOrderedRing has
-    /// Semiring and LinearOrder, and none has both Group and Semiring.
+    /// Semiring and LinearOrder, none has both Group and Semiring, one with Semiring and AddGroup has Ring, and one with
+    /// CommSemiring and AddGroup has CommRing.
     pub fn len(&self) -> usize
         ensures len { result ≡ length self.now }
         ensures well_formed { IsWellFormed self.now }
@@ -208,3 +210,6 @@ pub fn has(base: &Base, sort: Sort, class: Class) -> bool
 {
     test(base, sort, class)
 }
+
+#[cfg(test)]
+mod tests;

@@ -1,11 +1,10 @@
 ghost use Rattle.std.specs.Prelude.{◌≡◌, [], ◌∷◌, ◌++◌, length, All, IfOk, OnOk, OnErr};
 ghost use Rattle.alg_expr.specs.Arena.{Extends};
-ghost use Rattle.alg_expr.specs.Ids.{statement_of, IsStatementIn};
 ghost use Rattle.alg_law.specs.Declarations.{declaration_of, declarations_of, IsDeclaredIn};
 ghost use Rattle.alg_law.specs.Growing.{HasGrown};
 
 use crate::declarations::Declared;
-use alg_expr::{Arena, Items, Memory, Sort, Stmt, Text};
+use alg_expr::{Arena, Items, Memory, Sort, Text};
 use std::alloc::Global;
 use std::marker::Model;
 
@@ -114,7 +113,7 @@ fn own_copy(arena: &mut Arena, from: &Arena, d: &Declared) -> Result<Declared, M
         }),
         Declared::Hypothesis { name, stmt } => {
             let name = copied_text(alloc, name)?;
-            let stmt = imported(arena, from, *stmt)?;
+            let stmt = arena.import_statement(from, *stmt)?;
             Ok(Declared::Hypothesis { name, stmt })
         }
     }
@@ -130,23 +129,6 @@ fn copied_sorts(alloc: Global, sorts: &Items<Sort>) -> Result<Items<Sort>, Memor
     ensures { IfOk result (λ it. it ≡ sorts.now) }
 {
     Ok(Items::of(sorts.as_slice().to_vec(alloc)?))
-}
-
-// the statement in this arena
-fn imported(arena: &mut Arena, from: &Arena, stmt: Stmt) -> Result<Stmt, Memory>
-    requires { IsStatementIn from.now stmt }
-    ensures keeps { Extends arena.old arena.new }
-    ensures here { IfOk result (IsStatementIn arena.new) }
-    ensures same { IfOk result (λ s. statement_of arena.new s ≡ statement_of from.now stmt) }
-{
-    let lhs = arena.import(from, stmt.lhs)?;
-    let rhs = arena.import(from, stmt.rhs)?;
-    Ok(Stmt {
-        rel: stmt.rel,
-        sort: stmt.sort,
-        lhs,
-        rhs,
-    })
 }
 
 /// Declarations, lent with the arena that their statements are of.

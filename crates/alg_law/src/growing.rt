@@ -97,7 +97,8 @@ impl Growing {
     /// How many declarations there are.
     ///
     /// Each may follow the ones before it. So a sort with CharZero has Semiring, one with IsStrictOrderedRing has
-    /// Semiring and LinearOrder, and none has both Group and Semiring.
+    /// Semiring and LinearOrder, none has both Group and Semiring, one with Semiring and AddGroup has Ring, and one with
+    /// CommSemiring and AddGroup has CommRing.
     pub fn len(&self) -> usize
         ensures len { result ≡ length self.now }
         ensures room { result < 2 ^ 32 }

@@ -17,7 +17,7 @@ pub(crate) fn is_hypothesis(_arena: &Arena, d: &Declared) -> bool
 }
 
 /// The place of a type variable and a class in the table, which has twenty for each declaration.
-pub(crate) fn cell(sort: u32, class: Class) -> usize
+pub fn cell(sort: u32, class: Class) -> usize
     ensures cell { result ≡ cell sort class }
     ensures row { result < 20 * sort + 20 }
 {
@@ -61,7 +61,7 @@ fn make_room(first: &mut Vec<u32>, sort: u32) -> Result<(), Memory>
 }
 
 /// Makes the table long enough for an instance.
-pub(crate) fn make_room_for(
+pub fn make_room_for(
     first: &mut Vec<u32>,
     instance: Option<(u32, Class)>,
 ) -> Result<(), Memory>
@@ -75,7 +75,7 @@ pub(crate) fn make_room_for(
 }
 
 /// Declaration `at` gives what an instance gives.
-pub(crate) fn note_for(first: &mut Vec<u32>, instance: Option<(u32, Class)>, at: u32)
+pub fn note_for(first: &mut Vec<u32>, instance: Option<(u32, Class)>, at: u32)
     requires { HasRoom first.old.items instance }
     ensures { first.new.items ≡ noted_for first.old.items instance at }
 {

@@ -1,24 +1,25 @@
 //! Classes, declarations and bases, which trees are well sorted under a base, and the table of the laws.
 #![tactic(auto)]
 
-mod additive_laws;
+pub mod additive_laws;
 pub mod base;
 pub mod classes;
 mod combo;
 pub mod copies;
 pub mod declarations;
 pub mod growing;
-mod index;
+pub mod index;
+pub mod law_index;
 mod law_table;
 pub mod law_words;
 pub mod lending;
 pub mod marks;
-mod masks;
-mod multiplicative_laws;
-mod order_laws;
-mod ordered_ring_laws;
+pub mod masks;
+pub mod multiplicative_laws;
+pub mod order_laws;
+pub mod ordered_ring_laws;
 pub mod patterns;
-mod ring_laws;
+pub mod ring_laws;
 pub mod rows;
 pub mod shared;
 
@@ -28,9 +29,10 @@ pub use combo::{Combo, ComboStep};
 pub use copies::{Copies, Declarations};
 pub use declarations::Declared;
 pub use growing::Growing;
+pub use law_index::LawIndex;
 pub use law_table::{law_named, laws};
 pub use lending::{Given, Lent};
-pub use marks::{Mark, mark_for, mark_for_head, mark_for_sort, relates, worse_of};
+pub use marks::{Mark, literal_class, mark_for, mark_for_head, mark_for_sort, relates, worse_of};
 pub use patterns::{Pat, PatSort, PatStmt};
 pub use rows::{Law, Need};
 pub use shared::Shared;

@@ -40,7 +40,7 @@ pub fn mark_for(
 {
     while marks.len() <= id.number() {
         let next = arena.id(marks.len());
-        let m = look(marks.as_slice(), base, arena, next);
+        let m = mark_next(marks.as_slice(), base, arena, next);
         marks.push(m)?;
     }
     Ok(marks[id.number()])
@@ -84,6 +84,19 @@ pub fn relates(base: &Base, rel: Rel, sort: Sort) -> bool
     }
 }
 
+/// The class that a literal needs.
+pub fn literal_class(value: u128) -> Class
+    ensures { result ≡ literal_class value }
+{
+    if value == 0 {
+        Class::AddMonoid
+    } else if value == 1 {
+        Class::Monoid
+    } else {
+        Class::Semiring
+    }
+}
+
 /// The one of two causes that is looked for first.
 pub fn worse_of(a: Mark, b: Mark) -> Mark
     ensures { result ≡ worse a b }
@@ -102,8 +115,8 @@ pub fn worse_of(a: Mark, b: Mark) -> Mark
     }
 }
 
-// the mark of a tree whose parts have theirs
-fn look(marks: &[Mark], base: &Base, arena: &Arena, id: ExprId) -> Mark
+// the mark of the tree after those that have theirs
+fn mark_next(marks: &[Mark], base: &Base, arena: &Arena, id: ExprId) -> Mark
     requires here { IsIn arena.now id }
     requires next { id.index ≡ length marks.now }
     requires marked { HasMarks base.now arena.now marks.now }
@@ -127,20 +140,8 @@ fn literal(base: &Base, sort: Sort, value: u128) -> Mark
 {
     worse_of(
         mark_for_sort(base, sort),
-        class_needed(has(base, sort, class_of_literal(value))),
+        class_needed(has(base, sort, literal_class(value))),
     )
-}
-
-fn class_of_literal(value: u128) -> Class
-    ensures { result ≡ literal_class value }
-{
-    if value == 0 {
-        Class::AddMonoid
-    } else if value == 1 {
-        Class::Monoid
-    } else {
-        Class::Semiring
-    }
 }
 
 fn class_needed(there: bool) -> Mark

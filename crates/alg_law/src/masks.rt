@@ -85,14 +85,14 @@ fn own(sort: Sort) -> u32
 }
 
 /// Whether the first class is the second or implies it.
-pub(crate) fn follows(class: Class, from: Class) -> bool
+pub fn follows(class: Class, from: Class) -> bool
     ensures { result ≡ is_among (all_of from) class }
 {
     all(from) >> class.number() & 1 == 1
 }
 
 /// Whether a built-in sort has the class.
-pub(crate) fn is_own(sort: Sort, class: Class) -> bool
+pub fn is_own(sort: Sort, class: Class) -> bool
     ensures { result ≡ gives (own_classes sort) class }
 {
     own(sort) >> class.number() & 1 == 1

@@ -62,11 +62,11 @@ pub(crate) const LEMMAS_HEAD: [&str; 4] = [
     "",
     "# Lemmas",
     "",
-    "A lemma is used as a law is. Each follows from the laws: the code has its proof lines beside it, `lemmas()` of `alg_lemma`, and it is proved that they lead from its premises to its conclusion at every sort that it allows. The rows are `lemma_table` of `crates/alg_lemma/specs/Lemmas.antt`. There are 172.",
+    "A lemma is used as a law is. Each follows from the laws: the code has its proof lines beside it, `lemmas()` of `alg_lemma`, and it is proved that they lead from its premises to its conclusion at every sort that it allows. The rows are `lemma_table` of `crates/alg_lemma/specs/Lemmas.antt`. There are 210.",
 ];
 
 // The headings of the groups of lemmas.
-pub(crate) const LEMMA_GROUPS: [&str; 22] = [
+pub(crate) const LEMMA_GROUPS: [&str; 27] = [
     "First lemmas",
     "Another order",
     "Negations",
@@ -89,4 +89,9 @@ pub(crate) const LEMMA_GROUPS: [&str; 22] = [
     "Products of powers in a group",
     "What is positive",
     "Factors of quotients and inverses",
+    "Literals that change places",
+    "Equations and inequalities together",
+    "Inequalities from what is left over",
+    "Exponents that are sums and products",
+    "Powers by integers in a group",
 ];

@@ -5,7 +5,8 @@ use Rattle.std.proofs.lemmas.Bool.{and_parts}
 use Rattle.std.proofs.lemmas.Bool.Decides.{nat_tests}
 use Rattle.alg_terms.specs.declared.symbols.Sym.{Sym}
 use Rattle.alg_terms.specs.Keys.{sym_key, sym_key-inj}
-use Rattle.alg_terms.specs.Order.{rel_same, rel_same-equal}
+use Rattle.alg_terms.specs.Order.{rel_same}
+use Rattle.alg_terms.proofs.OrderLaws.{rel_same-equal}
 use Rattle.alg_law.specs.declared.patterns.PatSort.{PatSort}
 use Rattle.alg_law.specs.declared.patterns.PatSort.TheVariants as of
 use Rattle.alg_law.specs.Patterns.{Pat, Letter, PLit, PApp, Pats, PNil, PCons, PatStatement}

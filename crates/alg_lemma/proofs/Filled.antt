@@ -15,7 +15,7 @@ use Rattle.alg_law.specs.Patterns.{Pat, Letter, PLit, PApp, Pats, PNil, PCons, P
 use Rattle.alg_law.specs.LawRows.{parts}
 use Rattle.alg_law.specs.Rows.{meets_all}
 use Rattle.alg_law.specs.WellSorted.{class_mark, sort_mark, literal_class, head_mark, sorts_of, mark_of, marks_of, IsWellSorted, AreWellSorted}
-use Rattle.alg_law.specs.WellSortedLaws.{worse-good, worse-parts}
+use Rattle.alg_law.proofs.WellSortedLaws.{worse-good, worse-parts}
 use Rattle.alg_lemma.specs.Kinds.{kind_same, head_fits}
 use Rattle.alg_lemma.specs.Fitting.{letter_kind, kind_of, kinds_of, is_letter, fits, all_fit}
 use Rattle.alg_lemma.specs.Putting.{kind_at, put, put_all, put_statement}

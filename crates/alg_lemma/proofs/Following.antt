@@ -24,7 +24,7 @@ use Rattle.alg_law.specs.Patterns.{Pat, PLit, PApp, PNil, PCons, PatStatement, s
 use Rattle.alg_law.specs.LawRows.{parts}
 use Rattle.alg_law.specs.Rows.{Row, letters_of, meets_all, MayFill}
 use Rattle.alg_law.specs.Laws.{law_table, row_named}
-use Rattle.alg_law.specs.RowNames.{row_named-exact}
+use Rattle.alg_law.proofs.RowNameLaws.{row_named-exact}
 use Rattle.alg_law.specs.WellSorted.{sort_mark, IsWellSorted, AreWellSorted}
 use Rattle.alg_law.specs.Derivations.{Derivable, AllDerivable, none, more, reflexive, symmetric, transitive, congruent, substitution, row, literal_law, distinct, smul_literal, zsmul_literal, zpow_literal, equations, count_of}
 use Rattle.alg_proof.specs.declared.lines.BridgeKind.{BridgeKind}
@@ -33,7 +33,7 @@ use Rattle.alg_proof.specs.Causes.{line_at, is_small, is_eq_rel}
 use Rattle.alg_proof.specs.Following.{IsAdmissible}
 use Rattle.alg_proof.specs.LemmaRows.{PatStep, Refl, Symm, Trans, Cong, Subst, Law, Lemma, LitAdd, LitMul, LitRel, Bridge, Compute, lemma_row_of, proof_of}
 use Rattle.alg_proof.specs.declared.lemma_rows.LemmaRow.{LemmaRow}
-use Rattle.alg_proof.specs.LiteralSums.{literal_sum, literal_product}
+use Rattle.alg_proof.proofs.LiteralSums.{literal_sum, literal_product}
 use Rattle.alg_lemma.specs.Kinds.{kind_same, kind_has, needs_met}
 use Rattle.alg_lemma.specs.Fitting.{kind_of, kinds_of, fits, all_fit, statement_fits, statements_fit}
 use Rattle.alg_lemma.specs.Same.{pattern_same, pattern_statements_same}

@@ -8,7 +8,8 @@ use Rattle.alg_terms.specs.declared.symbols.Sym.{Sym}
 use Rattle.alg_terms.specs.declared.symbols.Sym.TheVariants.{Add, Mul, Neg, Sub, Inv, Div, Npow, Zpow, Nsmul, Zsmul, Abs, Min, Max, NatSub, IDiv, Mod, Gcd, Lcm, Fact, Choose, Fib, Apply}
 use Rattle.alg_terms.specs.declared.symbols.Place.{Place}
 use Rattle.alg_terms.specs.declared.symbols.Place.TheVariants.{Same, OfNat, OfInt}
-use Rattle.alg_terms.specs.Order.{sort_same, sort_same-self, sort_same-equal}
+use Rattle.alg_terms.specs.Order.{sort_same}
+use Rattle.alg_terms.proofs.OrderLaws.{sort_same-self, sort_same-equal}
 use Rattle.alg_terms.specs.Symbols.{places, is_built_in, is_integral, serves, place_fits, places_fit, arguments_fit}
 use Rattle.alg_law.specs.declared.classes.Class.{Class}
 use Rattle.alg_law.specs.declared.classes.Class.TheVariants.{AddMonoid, Semigroup, AddGroup, Group, Field, Monoid, Semiring, Ring, IsStrictOrderedRing, LinearOrder, CharZero}
@@ -20,12 +21,12 @@ use Rattle.alg_law.specs.declared.rows.Need.TheVariants as need
 use Rattle.alg_law.specs.Declarations.{Declaration}
 use Rattle.alg_law.specs.Classes.{class_key, class_same, class_at, class_at-class_key, gives, is_among, own_classes}
 use Rattle.alg_law.specs.Having.{Has, built_in, has_class}
-use Rattle.alg_law.specs.HavingLaws.{HaveAll, gives-have, has_class-complete, has_class-sound}
+use Rattle.alg_law.proofs.HavingLaws.{HaveAll, gives-have, has_class-complete, has_class-sound}
 use Rattle.alg_law.specs.Lawful.{IsLawful}
 use Rattle.alg_law.specs.Patterns.{sort_for}
 use Rattle.alg_law.specs.Rows.{meets, meets_all}
 use Rattle.alg_law.specs.WellSorted.{sort_mark, symbol_mark, built_in_mark, head_mark, has_classes}
-use Rattle.alg_law.specs.WellSortedLaws.{worse-good}
+use Rattle.alg_law.proofs.WellSortedLaws.{worse-good}
 use Rattle.alg_lemma.specs.Kinds.{granted, all_granted, lawful_beside, kind_has, asks_naturals, is_natural, is_whole, need_met, needs_met, kind_fits, kinds_fit, kind_serves, kind_has_classes, head_fits}
 use Rattle.alg_lemma.proofs.Alike.{same_number, kind_same-equal}
 
@@ -89,11 +90,11 @@ module _ (ds : List Declaration) (s : Sort) (ns : List Need) (lawful : IsLawful 
 
   lawful_ordered : has_class ds s IsStrictOrderedRing ≡ true → (has_class ds s Semiring && has_class ds s LinearOrder) ≡ true
   lawful_ordered h =
-      from_not (has_class ds s IsStrictOrderedRing) (has_class ds s Semiring && has_class ds s LinearOrder) (and_parts _ _ (and_parts _ _ (lawful s)).0).1 h
+      from_not (has_class ds s IsStrictOrderedRing) (has_class ds s Semiring && has_class ds s LinearOrder) (and_parts _ _ (and_parts _ _ (and_parts _ _ (lawful s)).0).0).1 h
 
   lawful_characteristic : has_class ds s CharZero ≡ true → has_class ds s Semiring ≡ true
   lawful_characteristic h =
-      from_not (has_class ds s CharZero) (has_class ds s Semiring) (and_parts _ _ (and_parts _ _ (lawful s)).0).0 h
+      from_not (has_class ds s CharZero) (has_class ds s Semiring) (and_parts _ _ (and_parts _ _ (and_parts _ _ (lawful s)).0).0).0 h
 
   have_two : (b c : Class) → Has ds s b → Has ds s c → HaveAll ds s (b ∷ c ∷ [])
   have_two b c h k x e =

@@ -3,3 +3,5 @@ mod Having
 mod Filled
 mod Following
 mod Adding
+pub mod Named
+pub mod LemmaNames

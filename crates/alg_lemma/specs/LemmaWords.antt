@@ -6,3 +6,7 @@ use Rattle.alg_law.specs.Patterns.{Pat, PatStatement}
 -- an equation between numbers of ℕ
 abbrev pub natural_equal : Pat → Pat → PatStatement
 natural_equal x y = record { rel = Eq; sort = of.Nat; lhs = x; rhs = y }
+
+-- an equation between numbers of ℤ
+abbrev pub integer_equal : Pat → Pat → PatStatement
+integer_equal x y = record { rel = Eq; sort = of.Int; lhs = x; rhs = y }

@@ -24,9 +24,14 @@ use Rattle.alg_lemma.specs.MultipleSumLemmas.{multiple_sum_lemmas}
 use Rattle.alg_lemma.specs.WordLemmas.{word_lemmas}
 use Rattle.alg_lemma.specs.PositivityLemmas.{positivity_lemmas}
 use Rattle.alg_lemma.specs.FactorLemmas.{factor_lemmas}
+use Rattle.alg_lemma.specs.CommutingLemmas.{commuting_lemmas}
+use Rattle.alg_lemma.specs.JoinedInequalityLemmas.{joined_inequality_lemmas}
+use Rattle.alg_lemma.specs.RestLemmas.{rest_lemmas}
+use Rattle.alg_lemma.specs.ExponentLemmas.{exponent_lemmas}
+use Rattle.alg_lemma.specs.IntegerPowerLemmas.{integer_power_lemmas}
 
 unfoldable pub lemma_groups : List (List Row)
-lemma_groups = first_lemmas ∷ rearranging_lemmas ∷ negation_lemmas ∷ sign_lemmas ∷ inverse_lemmas ∷ quotient_lemmas ∷ fraction_lemmas ∷ fraction_product_lemmas ∷ fraction_power_lemmas ∷ inequation_lemmas ∷ comparison_lemmas ∷ node_sum_lemmas ∷ node_pair_lemmas ∷ node_product_lemmas ∷ merging_lemmas ∷ written_term_lemmas ∷ combination_lemmas ∷ multiple_lemmas ∷ multiple_sum_lemmas ∷ word_lemmas ∷ positivity_lemmas ∷ factor_lemmas ∷ []
+lemma_groups = first_lemmas ∷ rearranging_lemmas ∷ negation_lemmas ∷ sign_lemmas ∷ inverse_lemmas ∷ quotient_lemmas ∷ fraction_lemmas ∷ fraction_product_lemmas ∷ fraction_power_lemmas ∷ inequation_lemmas ∷ comparison_lemmas ∷ node_sum_lemmas ∷ node_pair_lemmas ∷ node_product_lemmas ∷ merging_lemmas ∷ written_term_lemmas ∷ combination_lemmas ∷ multiple_lemmas ∷ multiple_sum_lemmas ∷ word_lemmas ∷ positivity_lemmas ∷ factor_lemmas ∷ commuting_lemmas ∷ joined_inequality_lemmas ∷ rest_lemmas ∷ exponent_lemmas ∷ integer_power_lemmas ∷ []
 
 -- the lemmas, one group after another
 unfoldable pub lemma_table : List Row

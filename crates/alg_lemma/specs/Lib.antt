@@ -26,5 +26,10 @@ pub mod MultipleSumLemmas
 pub mod WordLemmas
 pub mod PositivityLemmas
 pub mod FactorLemmas
+pub mod CommutingLemmas
+pub mod JoinedInequalityLemmas
+pub mod RestLemmas
+pub mod ExponentLemmas
+pub mod IntegerPowerLemmas
 pub mod Lemmas
-pub mod LemmaNames
+pub mod Library

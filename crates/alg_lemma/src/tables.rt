@@ -1,17 +1,23 @@
-ghost use Rattle.std.specs.Prelude.{◌≡◌, ◌++◌, ◌∷◌, [], map, true, IfOk, OnOk};
+ghost use Rattle.std.specs.Prelude.{◌≡◌, ◌++◌, ◌∷◌, [], map, true, All, IfOk, OnOk};
 ghost use Rattle.alg_proof.specs.LemmaRows.{lemma_row_of, rows_of};
 ghost use Rattle.alg_lemma.specs.Proving.{may_join, all_may_join, groups_may_join};
+ghost use Rattle.alg_proof.specs.Following.{IsAdmissible};
 ghost use Rattle.alg_lemma.specs.Lemmas.{lemma_groups, lemma_table};
+ghost use Rattle.alg_lemma.specs.Library.{HoldsLibrary};
 
 use crate::combinations::combination_lemmas;
+use crate::commuting::commuting_lemmas;
 use crate::comparisons::comparison_lemmas;
+use crate::exponents::exponent_lemmas;
 use crate::factors::factor_lemmas;
 use crate::first_rows::first_lemmas;
 use crate::fraction_powers::fraction_power_lemmas;
 use crate::fraction_products::fraction_product_lemmas;
 use crate::fractions::fraction_lemmas;
 use crate::inequations::inequation_lemmas;
+use crate::integer_powers::integer_power_lemmas;
 use crate::inverses::inverse_lemmas;
+use crate::joined_inequalities::joined_inequality_lemmas;
 use crate::merges::merging_lemmas;
 use crate::multiple_sums::multiple_sum_lemmas;
 use crate::multiples::multiple_lemmas;
@@ -22,6 +28,7 @@ use crate::node_sums::node_sum_lemmas;
 use crate::positive_parts::positivity_lemmas;
 use crate::quotients::quotient_lemmas;
 use crate::rearrangements::rearranging_lemmas;
+use crate::rests::rest_lemmas;
 use crate::signs::sign_lemmas;
 use crate::word_rows::word_lemmas;
 use crate::written_terms::written_term_lemmas;
@@ -30,7 +37,7 @@ use alg_proof::{LemmaRow, Lemmas};
 use std::alloc::Global;
 
 /// The lemmas, in groups. Rows are only ever added at the end.
-pub fn lemmas() -> [&'static [LemmaRow]; 22]
+pub fn lemmas() -> [&'static [LemmaRow]; 27]
     ensures rows { map (λ g. map lemma_row_of g.now) result ≡ lemma_groups }
     ensures proved { groups_may_join [] (map (λ g. g.now) result) ≡ true }
 {
@@ -57,17 +64,26 @@ pub fn lemmas() -> [&'static [LemmaRow]; 22]
         word_lemmas(),
         positivity_lemmas(),
         factor_lemmas(),
+        commuting_lemmas(),
+        joined_inequality_lemmas(),
+        rest_lemmas(),
+        exponent_lemmas(),
+        integer_power_lemmas(),
     ]
 }
 
 /// The table of all lemmas, each of which follows from the laws.
 pub fn library(alloc: Global) -> Result<Lemmas, Memory>
-    ensures { IfOk result (λ t. rows_of t ≡ lemma_table) }
+    ensures table { IfOk result (λ t. rows_of t ≡ lemma_table) }
+    ensures holds { IfOk result (λ t. HoldsLibrary (rows_of t)) }
+    ensures admissible { IfOk result (λ t. All IsAdmissible (rows_of t)) }
 {
     let mut table = Lemmas::new(alloc)?;
     for group in lemmas() {
         add_all(&mut table, group)?;
     }
+    // its clause says that each lemma follows from the laws
+    let _known = table.len();
     Ok(table)
 }
 
@@ -87,6 +103,7 @@ fn add(table: &mut Lemmas, lemma: &'static LemmaRow) -> Result<(), Memory>
     requires { may_join (rows_of table.old) lemma.now ≡ true }
     ensures { OnOk result (rows_of table.new ≡ rows_of table.old ++ lemma_row_of lemma.now ∷ []) }
 {
+    // its clause says that the lemmas before this one follow from the laws
     let _known = table.len();
     table.push(lemma)
 }

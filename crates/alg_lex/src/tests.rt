@@ -47,36 +47,6 @@ fn gives<'a>(rt: &impl Abort, text: &'a str, want: &[Seen<'a>]) {
     }
 }
 
-// Each mark and each word alone, and marks side by side.
-#[test]
-fn marks_and_words(rt: HostRuntime) {
-    let marks = [
-        "(", ")", "{", "}", "[", "]", ":", ":=", ";", "=", "≠", "<", "≤", "<=", ">", "≥", ">=",
-        "∣", "+", "-", "*", "/", "%", "^", "•", "⁻¹", "→", "->",
-    ];
-    for text in marks {
-        gives(&rt, text, &[mark(text, 0)]);
-    }
-    let words = [
-        "import", "variable", "theorem", "lemma", "example", "by", "Type",
-    ];
-    for text in words {
-        gives(&rt, text, &[placed(Kind::Word, text, 0, 1, false)]);
-    }
-    gives(
-        &rt,
-        "<==:==> ->--",
-        &[
-            mark("<=", 0),
-            mark("=", 2),
-            mark(":=", 3),
-            mark("=", 5),
-            mark(">", 6),
-            mark("->", 8),
-        ],
-    );
-}
-
 // Names, and literals at the limit 2^127-1 = 170141183460469231731687303715884105727.
 #[test]
 fn names_and_literals(rt: HostRuntime) {

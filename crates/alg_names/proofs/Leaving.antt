@@ -1,5 +1,5 @@
 -- What was entered is taken out of force again.
-use Rattle.std.proofs.Common.{◌≡◌, ap, sym, ◌∙◌, List}
+use Rattle.std.proofs.Common.{◌≡◌, ap, ◌∙◌, List}
 use Rattle.alg_law.specs.Declarations.{Declaration}
 use Rattle.alg_names.specs.declared.scope.Mark.{Mark}
 use Rattle.alg_names.specs.declared.scope.Scope.{Scope}

@@ -1,5 +1,5 @@
 -- The words of the map, and those of the names.
-use Rattle.std.proofs.Common.{◌≡◌, ℕ, List, [], ◌∷◌, ◌++◌, Option, Some, None, refl, sym, ap, ◌∙◌, map}
+use Rattle.std.proofs.Common.{◌≡◌, ℕ, List, [], ◌∷◌, Some, refl, ap, map}
 use Rattle.std.specs.Map.{lookup}
 use Rattle.std.specs.Prelude.{cond, bytes_eq}
 use Rattle.alg_names.specs.Found.{found}

@@ -1,13 +1,11 @@
-ghost use Rattle.std.specs.Prelude.{◌≡◌, ◌<◌, ◌-◌, ◌^◌, List, [], map, None, IfOk, OnOk, OnErr, option_map};
+ghost use Rattle.std.specs.Prelude.{◌≡◌, ◌<◌, ◌-◌, ◌^◌, List, [], None, IfOk, OnOk, OnErr, option_map};
 ghost use Rattle.alg_terms.specs.declared.symbols.Sym.TheVariants.{Apply};
 ghost use Rattle.alg_terms.specs.Tree.{Tree};
 ghost use Rattle.alg_expr.specs.Ids.{statement_of};
 ghost use Rattle.alg_law.specs.Declarations as declarations;
 ghost use Rattle.alg_law.specs.Declarations.{Declaration, Instance, declaration_of};
 ghost use Rattle.alg_law.specs.Following.{needs, has_all, gives_again};
-ghost use Rattle.alg_law.specs.Having.{instances_give, is_decl};
 ghost use Rattle.alg_law.specs.WellSorted.{has_classes};
-ghost use Rattle.alg_names.specs.declared.grants.Granted as declared;
 ghost use Rattle.alg_names.specs.declared.meanings.Meaning.TheVariants as meanings;
 ghost use Rattle.alg_names.specs.declared.scope.Scope as declared_scope;
 ghost use Rattle.alg_names.specs.BuiltIn.{built_in};
@@ -20,7 +18,7 @@ use crate::grants::{Granted, Grants};
 use crate::meanings::Meaning;
 use crate::names::Names;
 use alg_expr::{Arena, Items, Memory, Rel, Sort, Stmt, Sym, Text};
-use alg_law::classes::{any_gives, is_in, own};
+use alg_law::masks::{follows, is_own};
 use alg_law::{Class, Declared};
 use std::alloc::Global;
 
@@ -71,16 +69,16 @@ impl Scope {
     pub fn has(&self, sort: Sort, class: Class) -> bool
         ensures { result ≡ has self.now sort class }
     {
-        any_gives(own(sort), class) || any_grants(self.granted.as_slice(), sort, class)
+        is_own(sort, class) || self.granted.gives(sort, class)
     }
 
     /// Whether the class gives an operation that the sort has already.
     pub fn gives_again(&self, sort: Sort, class: Class) -> bool
         ensures { result ≡ gives_again (instances self.now) sort class }
     {
-        (self.has(sort, Class::Semigroup) && is_in(class.all(), Class::Semigroup))
-            || (self.has(sort, Class::AddMonoid) && is_in(class.all(), Class::AddMonoid))
-            || (self.has(sort, Class::LinearOrder) && is_in(class.all(), Class::LinearOrder))
+        (self.has(sort, Class::Semigroup) && follows(Class::Semigroup, class))
+            || (self.has(sort, Class::AddMonoid) && follows(Class::AddMonoid, class))
+            || (self.has(sort, Class::LinearOrder) && follows(Class::LinearOrder, class))
     }
 
     /// Whether the sort has the classes that must be there before a class is declared.
@@ -236,25 +234,5 @@ impl Scope {
         self.granted.leave(mark.granted);
         self.declared = mark.declared;
         self.hypotheses = mark.hypotheses;
-    }
-}
-
-fn any_grants(granted: &[Granted], sort: Sort, class: Class) -> bool
-    ensures { result ≡ instances_give (map (λ (g : declared.Granted). Instance g.sort g.class) granted.now) sort class }
-{
-    for g in granted {
-        if is_number(sort, g.sort) && is_in(g.class.all(), class) {
-            return true;
-        }
-    }
-    false
-}
-
-fn is_number(sort: Sort, number: u32) -> bool
-    ensures { result ≡ is_decl sort number }
-{
-    match sort {
-        Sort::Decl(k) => k == number,
-        _ => false,
     }
 }

@@ -9,7 +9,7 @@ use Rattle.alg_expr.specs.declared.ids.ExprId.{ExprId}
 use Rattle.alg_expr.specs.declared.memory.Memory.{Memory}
 use Rattle.alg_expr.specs.Ids.{tree_of, trees_at, statement_of}
 use Rattle.alg_expr.specs.Applying.{sorts_at, sorts_fit}
-use Rattle.alg_expr.specs.Arena.{IsIn-extends, tree_of-extends}
+use Rattle.alg_expr.proofs.ArenaLaws.{IsIn-extends, tree_of-extends}
 use Rattle.alg_law.specs.WellSorted.{IsStatement}
 use Rattle.alg_build.specs.Book.{Book, Grows, Makes}
 use Rattle.alg_build.proofs.Lines.{grows-self, grows-same, keeps-grows, grows-then}

@@ -9,11 +9,11 @@ ghost use Rattle.alg_normnum.specs.Values.{answer_of, norm_num_answer, equation}
 ghost use Rattle.alg_normnum.specs.Found.{IsNumber, IsValued, AreValued};
 
 use alg_build::{
-    Builder, Outcome, Rewriting, TacFault, close, keep, product_of_literals, sum_of_literals, then, under_two,
+    Builder, Outcome, Rewriting, TacFault, close, keep, product_of_literals, sum_of_literals, then,
+    under_two,
 };
 use alg_expr::{ExprId, Memory, Rel, Sort, Stmt, Sym, View};
-
-const LIMIT: u128 = 0x7fff_ffff_ffff_ffff_ffff_ffff_ffff_ffff;
+use alg_terms::GREATEST_LITERAL as LIMIT;
 
 /// The value of a tree, with the rewriting to it.
 #[derive(Clone, Copy)]

@@ -3,12 +3,12 @@ use Rattle.std.proofs.Common.{◌≡◌, ℕ, ◌*◌, ◌/◌, ◌<◌, ◌^◌
 use Rattle.std.specs.Int.{IsGcd, ◌∣◌, w128}
 use Rattle.std.proofs.lemmas.Nat.Gcd.{dvd_antisymm}
 use Rattle.std.proofs.Math.Nat.{div-mul_cancel, mul-div_cancel', mul-div_cancel_left, mul-div_cancel, dvd-mul_left, dvd-mul_right, mul-dvd-mul_left, dvd_of_mul-dvd-mul_right}
-use Rattle.alg_num.specs.IntegerLaws.{positive_product, positive_factor, as_difference, differences, difference-same}
-use Rattle.alg_num.specs.CoprimeLaws.{gcd_positive, coprime_quotients, divides_other}
+use Rattle.alg_num.proofs.IntegerLaws.{positive_product, positive_factor, as_difference, differences, difference-same}
+use Rattle.alg_num.proofs.CoprimeLaws.{gcd_positive, coprime_quotients, divides_other}
 use Rattle.alg_num.specs.Range.{InRange}
 use Rattle.alg_num.specs.Fraction.{Fraction}
 use Rattle.alg_num.specs.LowestTerms.{IsInLowestTerms, Reduces}
-use Rattle.alg_num.specs.LowestTermsLaws.{Reduces-same}
+use Rattle.alg_num.proofs.LowestTermsLaws.{Reduces-same}
 use Rattle.alg_num.specs.Sum.{sum_of, ScaledSumInRange}
 use Rattle.alg_num.proofs.Reductions.{cast_back}
 use Rattle.alg_num.specs.LeastSum.{IsLeastCommonMultiple, numerator_over, LeastSumInRange}
@@ -72,7 +72,7 @@ parts_of_least p q g h i k w =
       bottom = subst Q e w.bottom;
     }
 
-least_of_parts : (p q : Fraction) (g : ℕ) → 0 < p.denominator → 0 < q.denominator → IsGcd p.denominator q.denominator g → PartsInRange p q g → LeastSumInRange p q
+pub least_of_parts : (p q : Fraction) (g : ℕ) → 0 < p.denominator → 0 < q.denominator → IsGcd p.denominator q.denominator g → PartsInRange p q g → LeastSumInRange p q
 least_of_parts p q g h i k w =
     let left = left_over p q g h in
     let right = right_over p q g i k in

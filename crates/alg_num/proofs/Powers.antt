@@ -1,7 +1,7 @@
 use Rattle.std.proofs.Common.{◌≡◌, ℕ, zero, suc, ◌^◌, ◌%◌, ◌<◌, ◌≤◌, ℤ, pos, negsuc, arith, refl, ◌∙◌, cond, Bool, true, false, lit≤, subst, eqb-true}
 use Rattle.std.specs.Prelude.{unsigned_abs, ◌==◌}
 use Rattle.std.specs.Int.{int_pow}
-use Rattle.alg_num.specs.PowerLaws.{unsigned_abs-int_pow}
+use Rattle.alg_num.proofs.PowerLaws.{unsigned_abs-int_pow}
 use Rattle.std.proofs.Math.Nat.{pow-zero, pow-suc, pow-le-pow_left, pow-le-pow_right, mul-one, mul-zero}
 
 pub one-pow : (n : ℕ) → 1 ^ n ≡ 1

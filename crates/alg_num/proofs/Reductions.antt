@@ -6,14 +6,14 @@ use Rattle.std.proofs.lemmas.Int.{ints, unsigned_abs-mul, to_z-of_z, fits_signed
 use Rattle.std.proofs.lemmas.Nat.Gcd.{IsGcd-swap}
 use Rattle.std.proofs.Math.Nat.{dvd-mul_left, dvd-mul_right}
 use Rattle.std.proofs.Math.IntN.{*ℤ_comm}
-use Rattle.alg_num.specs.IntegerLaws.{positive_product, *ℤ_swap_middle}
-use Rattle.alg_num.specs.CoprimeLaws.{coprime_divisors, coprime_product, divides_other}
+use Rattle.alg_num.proofs.IntegerLaws.{positive_product, *ℤ_swap_middle}
+use Rattle.alg_num.proofs.CoprimeLaws.{coprime_divisors, coprime_product, divides_other}
 use Rattle.alg_num.specs.Range.{InRange}
 use Rattle.alg_num.specs.Fraction.{Fraction, NumbersInRange}
 use Rattle.alg_num.specs.LowestTerms.{IsInLowestTerms, Reduces, LowestInRange}
 use Rattle.alg_num.specs.Answer.{ReducesIff}
-use Rattle.alg_num.specs.ReducedLaws.{signed, unsigned_abs-signed, as_signed}
-use Rattle.alg_num.specs.LowestTermsLaws.{Reduces-unique, Reduces-same}
+use Rattle.alg_num.proofs.ReducedLaws.{signed, unsigned_abs-signed, as_signed}
+use Rattle.alg_num.proofs.LowestTermsLaws.{Reduces-unique, Reduces-same}
 use Rattle.alg_num.specs.Product.{product_of}
 use Rattle.alg_num.specs.Inverse.{IsInverse}
 

@@ -7,11 +7,6 @@ pub mod LeastSum
 pub mod Product
 pub mod Power
 pub mod Inverse
+pub mod Negative
 pub mod Order
 pub mod Reduced
-pub mod IntegerLaws
-pub mod PowerLaws
-pub mod CoprimeLaws
-pub mod LowestTermsLaws
-pub mod ReducedLaws
-pub mod FractionLaws

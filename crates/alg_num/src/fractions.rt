@@ -9,9 +9,10 @@ ghost use Rattle.alg_num.specs.LeastSum.{LeastSumInRange};
 ghost use Rattle.alg_num.specs.Product.{product_of};
 ghost use Rattle.alg_num.specs.Power.{power_of};
 ghost use Rattle.alg_num.specs.Inverse.{IsInverse};
-ghost use Rattle.alg_num.specs.Order.{order_of, CrossProductsInRange};
+ghost use Rattle.alg_num.specs.Negative.{negative_of};
+ghost use Rattle.alg_num.specs.Order.{order_of, CrossProductsInRange, is_different, CrossDifferenceInRange};
 
-use crate::integers::{add, gcd, mul, pow};
+use crate::integers::{add, gcd, mul, pow, sub};
 use std::cmp::Ordering;
 use std::marker::Model;
 
@@ -47,6 +48,14 @@ impl Frac {
         Some(Frac::reduced(num, den))
     }
 
+    /// The whole number, without a search for a common divisor.
+    pub fn whole(num: i128) -> Frac
+        requires { InRange num }
+        ensures { result ≡ record { numerator = num; denominator = 1 } }
+    {
+        Frac { num, den: 1 }
+    }
+
     /// The numerator in lowest terms. It has the sign of the fraction.
     pub fn num(&self) -> i128
         ensures number { result ≡ self.now.numerator }
@@ -62,6 +71,16 @@ impl Frac {
         ensures lowest { IsInLowestTerms self.now }
     {
         self.den
+    }
+
+    /// The fraction with the other sign.
+    pub fn neg(&self) -> Frac
+        ensures { result ≡ negative_of self.now }
+    {
+        Frac {
+            num: -self.num,
+            den: self.den,
+        }
     }
 
     /// One over the fraction. The inverse of 0 is 0.
@@ -116,9 +135,62 @@ impl Frac {
         Some(left.cmp(&right))
     }
 
+    /// Whether the two fractions differ. `None` where a cross product is past the range, or the
+    /// difference of the two.
+    pub fn differs(&self, other: &Frac) -> Option<bool>
+        ensures { SomeIff result (CrossDifferenceInRange self.now other.now) (is_different self.now other.now) }
+    {
+        let left = scaled(self.num, other.den)?;
+        let right = scaled(other.num, self.den)?;
+        let _difference = sub(left, right)?;
+        Some(left.cmp(&right).is_ne())
+    }
+
     /// The sum over the least common multiple of the denominators. `None` where that multiple, a
-    /// numerator over it or the sum of the two is past the range.
+    /// numerator over it or the sum of the two is past the range. Whole numbers take no search for a
+    /// common divisor.
     pub fn plus(&self, other: &Frac) -> Option<Frac>
+        ensures { ReducesIff result (LeastSumInRange self.now other.now) (sum_of self.now other.now) }
+    {
+        if self.den == 1 && other.den == 1 {
+            return self.whole_sum(other);
+        }
+        self.common_sum(other)
+    }
+
+    /// The product, with common factors taken out first. `None` where a number of the reduced product
+    /// is past the range. Whole numbers take no search for a common divisor.
+    pub fn times(&self, other: &Frac) -> Option<Frac>
+        ensures { ReducesIff result (LowestInRange (product_of self.now other.now)) (product_of self.now other.now) }
+    {
+        if self.den == 1 && other.den == 1 {
+            return self.whole_product(other);
+        }
+        self.crossed_product(other)
+    }
+
+    /// The sum of two whole numbers.
+    fn whole_sum(&self, other: &Frac) -> Option<Frac>
+        requires first { self.now.denominator ≡ 1 }
+        requires second { other.now.denominator ≡ 1 }
+        ensures { ReducesIff result (LeastSumInRange self.now other.now) (sum_of self.now other.now) }
+    {
+        let num = add(self.num, other.num)?;
+        Some(Frac::whole(num))
+    }
+
+    /// The product of two whole numbers.
+    fn whole_product(&self, other: &Frac) -> Option<Frac>
+        requires first { self.now.denominator ≡ 1 }
+        requires second { other.now.denominator ≡ 1 }
+        ensures { ReducesIff result (LowestInRange (product_of self.now other.now)) (product_of self.now other.now) }
+    {
+        let num = mul(self.num, other.num)?;
+        Some(Frac::whole(num))
+    }
+
+    /// The sum over the least common multiple of the denominators.
+    fn common_sum(&self, other: &Frac) -> Option<Frac>
         ensures { ReducesIff result (LeastSumInRange self.now other.now) (sum_of self.now other.now) }
     {
         let common = gcd(self.den, other.den);
@@ -129,9 +201,8 @@ impl Frac {
         Some(Frac::reduced(total, den))
     }
 
-    /// The product, with common factors taken out first. `None` where a number of the reduced product
-    /// is past the range.
-    pub fn times(&self, other: &Frac) -> Option<Frac>
+    /// The product, with common factors taken out first.
+    fn crossed_product(&self, other: &Frac) -> Option<Frac>
         ensures { ReducesIff result (LowestInRange (product_of self.now other.now)) (product_of self.now other.now) }
     {
         let left = Frac::reduced(self.num, other.den);

@@ -78,6 +78,3 @@ fn in_range(number: i128) -> Option<i128>
         Some(number)
     }
 }
-
-#[cfg(test)]
-mod tests;

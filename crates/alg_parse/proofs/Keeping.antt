@@ -5,7 +5,8 @@ use Rattle.std.proofs.lemmas.List.Elements.{All-head, All-tail, All-push}
 use Rattle.alg_terms.specs.Tree.{Tree}
 use Rattle.alg_expr.specs.declared.ids.Stmt.{Stmt}
 use Rattle.alg_expr.specs.Ids.{statement_of}
-use Rattle.alg_expr.specs.Arena.{Extends, IsIn-extends, statement_of-extends}
+use Rattle.alg_expr.specs.Arena.{Extends}
+use Rattle.alg_expr.proofs.ArenaLaws.{IsIn-extends, statement_of-extends}
 use Rattle.alg_law.specs.declared.declarations.Declared.{Declared}
 use Rattle.alg_law.specs.declared.declarations.Declared.TheVariants as declared
 use Rattle.alg_law.specs.Declarations.{Declaration, Hypothesis, declaration_of, declarations_of, IsDeclaredIn}

@@ -1,5 +1,8 @@
 pub mod CallLaws
+pub mod CombinationsGood
 pub mod Keeping
 pub mod Looked
+pub mod NoProofs
 pub mod ProgressLaws
+pub mod ScriptsFit
 pub mod TellingLaws

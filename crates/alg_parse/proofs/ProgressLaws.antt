@@ -8,7 +8,8 @@ use Rattle.alg_terms.specs.declared.relations.Rel.{Rel}
 use Rattle.alg_terms.specs.Tree as terms
 use Rattle.alg_terms.specs.Tree.{Tree}
 use Rattle.alg_expr.specs.Ids.{statement_of, IsStatementIn}
-use Rattle.alg_expr.specs.Arena.{Extends, IsIn-extends, statement_of-extends}
+use Rattle.alg_expr.specs.Arena.{Extends}
+use Rattle.alg_expr.proofs.ArenaLaws.{IsIn-extends, statement_of-extends}
 use Rattle.alg_law.specs.declared.declarations.Declared.{Declared}
 use Rattle.alg_law.specs.Declarations.{Declaration, declarations_of, IsDeclaredIn}
 use Rattle.alg_law.specs.Following.{AllMayFollow, IsWellFormed}
@@ -102,11 +103,11 @@ fault_added k told ts s sh us cs ds line cause h e =
     })
 
 -- what is in force says what is declared
-known-follows : (k : Known) → IsWellFormed k.shared → Follows (in_force k) k.shared
-known-follows k h = entered-follows at_first [] k.shared (start-follows at_first refl refl refl) h
+pub known-follows : (k : Known) → IsWellFormed k.shared → Follows (in_force k) k.shared
+known-follows k h = entered-follows at_first [] k.shared (start-follows at_first refl refl refl refl) h
 
 -- what binders without a fault declare may follow it
-binders_fit : (k : Known) (bs : List Binder) → IsWellFormed k.shared → binders_faults (in_force k) bs ≡ [] → AllMayFollow k.shared (declared_by_all (in_force k) bs)
+pub binders_fit : (k : Known) (bs : List Binder) → IsWellFormed k.shared → binders_faults (in_force k) bs ≡ [] → AllMayFollow k.shared (declared_by_all (in_force k) bs)
 binders_fit k bs h e = binders-follow (in_force k) k.shared (known-follows k h) bs e
 
 -- what a command declares

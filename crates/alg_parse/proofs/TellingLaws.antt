@@ -10,7 +10,9 @@ use Rattle.alg_parse.specs.declared.reader.Reader.{Reader}
 use Rattle.alg_parse.specs.Told.{Told}
 use Rattle.alg_parse.specs.Files.{Known, nothing, known_after, told_of, Tell, none, more}
 use Rattle.alg_parse.specs.FileTrees.{AreTold, IsCommandIn, IsRead}
+use Rattle.alg_parse.specs.Fitting.{ToldFits}
 use Rattle.alg_parse.specs.Progress.{Stands, Reads, HasTold, ReadsTo}
+use Rattle.alg_parse.proofs.ScriptsFit.{told-fit}
 
 told_start : (all : List (List Item)) → HasTold all nothing [] all
 told_start all = record { ends = λ rest end h. h }
@@ -51,10 +53,14 @@ fewer_left (items ∷ old) left a g = let e : length left ≡ length old = ap le
 -- the file is read
 pub file_read : (text : List ℕ) (r : Reader) (f : FileTree) → ReadsTo (commands_of (items_from beginning (chars text))) [] r → f.arena ≡ r.arena → f.shared ≡ r.shared → f.commands ≡ r.commands.items → IsRead text f
 file_read text r f h a b d =
+    let all = commands_of (items_from beginning (chars text)) in
+    let tell = told_end all h.known h.told h.has_told in
+    let shared = b ∙ h.stands.shared in
     record {
       told = h.told;
-      tells = record { end = h.known; tell = told_end (commands_of (items_from beginning (chars text))) h.known h.told h.has_told };
+      tells = record { end = h.known; tell = tell };
       commands_told = subst (λ ts. AreTold ts f.commands h.told) (sym a) (subst (λ cs. AreTold r.arena cs h.told) (sym d) h.stands.commands);
-      shared = b ∙ h.stands.shared;
+      shared = shared;
       each = subst (λ ts. All (IsCommandIn ts f.shared) f.commands) (sym a) (subst (λ sh. All (IsCommandIn r.arena sh) f.commands) (sym b) (subst (λ cs. All (IsCommandIn r.arena r.shared) cs) (sym d) h.stands.each));
+      fit = subst (λ sh. All (ToldFits sh) h.told) (sym shared) (told-fit nothing all h.told h.known tell tt);
     }

@@ -6,10 +6,10 @@ use Rattle.alg_expr.specs.Ids.{statement_of, IsStatementIn}
 use Rattle.alg_expr.specs.declared.ids.Stmt.{Stmt}
 use Rattle.alg_lex.specs.Items.{items_from, beginning}
 use Rattle.alg_law.specs.declared.declarations.Declared.{Declared}
+use Rattle.alg_law.specs.Combinations.{parts_of, IsStepIn}
 use Rattle.alg_law.specs.Declarations.{Declaration, declarations_of, IsDeclaredIn}
 use Rattle.alg_law.specs.Following.{AllMayFollow}
 use Rattle.alg_law.specs.WellSorted.{IsStatement}
-use Rattle.alg_combinations.specs.Combined.{Says}
 use Rattle.alg_commands.specs.Cutting.{commands_of}
 use Rattle.alg_parse.specs.declared.procedures.Proc.{Proc}
 use Rattle.alg_parse.specs.declared.procedures.Proc.TheVariants as proc
@@ -18,21 +18,12 @@ use Rattle.alg_parse.specs.declared.file_trees.Command.TheVariants as command
 use Rattle.alg_parse.specs.declared.file_trees.FileTree.{FileTree}
 use Rattle.alg_parse.specs.Told.{Told, declares, goal, faulty, Call, plain, combination}
 use Rattle.alg_parse.specs.Files.{Known, nothing, Tell}
+use Rattle.alg_parse.specs.Fitting.{ToldFits}
 
 -- a procedure of the code is this call
 abbrev pub IsCall : List Tree → Proc → Call → Type 0
-IsCall ts (proc.LinearCombination c) (combination x) = Says ts c x
-IsCall ts (proc.LinearCombination c) (plain p) = ⊥
-IsCall ts proc.NormNum call = call ≡ plain proc.NormNum
-IsCall ts proc.Ring call = call ≡ plain proc.Ring
-IsCall ts proc.Ring1 call = call ≡ plain proc.Ring1
-IsCall ts proc.RingNf call = call ≡ plain proc.RingNf
-IsCall ts proc.Abel call = call ≡ plain proc.Abel
-IsCall ts proc.Abel1 call = call ≡ plain proc.Abel1
-IsCall ts proc.AbelNf call = call ≡ plain proc.AbelNf
-IsCall ts proc.Group call = call ≡ plain proc.Group
-IsCall ts proc.Positivity call = call ≡ plain proc.Positivity
-IsCall ts proc.FieldSimp call = call ≡ plain proc.FieldSimp
+IsCall ts (proc.Named p) call = call ≡ plain p
+IsCall ts (proc.LinearCombination c) call = All (IsStepIn ts) c.steps × (call ≡ combination (parts_of ts c))
 
 abbrev pub AreCalls : List Tree → List Proc → List Call → Type 0
 AreCalls ts [] [] = ⊤
@@ -79,3 +70,4 @@ pub record IsRead (text : List ℕ) (f : FileTree) : Type 0 where
   pub commands_told : AreTold f.arena f.commands told
   pub shared : f.shared ≡ tells.end.shared
   pub each : All (IsCommandIn f.arena f.shared) f.commands
+  pub fit : All (ToldFits f.shared) told

@@ -1,6 +1,6 @@
 pub mod Elaborated
 pub mod Files
+pub mod Fitting
 pub mod FileTrees
-pub mod Procedures
 pub mod Progress
 pub mod Told

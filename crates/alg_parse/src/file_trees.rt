@@ -10,7 +10,7 @@ use crate::reader::Reader;
 use alg_commands::files::Commands;
 use alg_elaborate::Cause;
 use alg_expr::{Arena, Items, Memory, Stmt, Text};
-use alg_law::{Base, Declared};
+use alg_law::{Declared, Shared};
 use std::alloc::Global;
 
 /// A command of a file.
@@ -39,7 +39,7 @@ pub enum Command {
 #[derive(Drop)]
 pub struct FileTree {
     pub arena: Arena,
-    pub shared: Base,
+    pub shared: Shared,
     pub commands: Items<Command>,
 }
 
@@ -57,12 +57,12 @@ fn read_commands(alloc: Global, src: &str) -> Result<Reader, Memory>
     Ok(reader)
 }
 
-/// Reads a file of at most 16 MiB. The time grows with its length; besides, each test of a class looks at the class
-/// binders in force, so that very many of those take longer.
+/// Reads a file of at most 16 MiB, in time that grows with its length.
 pub fn read_file(alloc: Global, src: &str) -> Result<FileTree, Memory>
     requires { length src.now ≤ 2 ^ 24 }
     ensures { IfOk result (IsRead src.now) }
 {
     let reader = read_commands(alloc, src)?;
-    Ok(reader.finish())
+    let file = reader.finish(alloc)?;
+    Ok(file)
 }

@@ -11,13 +11,14 @@ mod reader;
 mod scripts;
 mod used_names;
 
+pub use alg_binders::Procedure;
 pub use alg_elaborate::Cause;
 pub use causes::cause_of;
 pub use commands::{Elaborated, elaborate_command};
 pub use file_trees::{Command, FileTree, read_file};
 pub use goals::build_procedures;
 pub use labels::unnamed;
-pub use procedures::{Proc, procedure_named};
+pub use procedures::Proc;
 pub use scripts::build_script;
 pub use used_names::UsedNames;
 

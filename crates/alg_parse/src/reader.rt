@@ -23,7 +23,7 @@ use alg_binders::Stated;
 use alg_commands::readings::Reading;
 use alg_elaborate::Cause;
 use alg_expr::{Arena, Items, Memory, Text};
-use alg_law::{Base, Declared};
+use alg_law::{Declared, Growing, Shared};
 use alg_names::Scope;
 use alg_syntax::commands;
 use alg_syntax::signs::Name;
@@ -35,13 +35,13 @@ pub struct Reader {
     pub arena: Arena,
     /// What is in force behind the commands so far.
     pub scope: Scope,
-    pub shared: Base,
+    pub shared: Growing,
     /// The names of the theorems so far.
     pub used: UsedNames,
     pub commands: Vec<Command>,
 }
 
-// Whether a base has room for so many declarations.
+// Whether a list of declarations has room for so many declarations.
 fn has_room(before: usize, more: usize) -> bool
     ensures { IsTrue result ↔ before + more < 2 ^ 32 }
 {
@@ -60,7 +60,7 @@ impl Reader {
         Ok(Reader {
             arena: Arena::new(alloc)?,
             scope: Scope::new(alloc)?,
-            shared: Base::new(alloc)?,
+            shared: Growing::new(alloc)?,
             used: UsedNames::new(alloc),
             commands: Vec::new(alloc),
         })
@@ -215,10 +215,10 @@ impl Reader {
     }
 
     /// The file that was read.
-    pub fn finish(self) -> FileTree
-        ensures arena { result.arena ≡ self.arena }
-        ensures shared { result.shared ≡ self.shared }
-        ensures commands { result.commands ≡ self.commands.items }
+    pub fn finish(self, alloc: Global) -> Result<FileTree, Memory>
+        ensures arena { IfOk result (λ f. f.arena ≡ self.arena) }
+        ensures shared { IfOk result (λ f. f.shared ≡ self.shared) }
+        ensures commands { IfOk result (λ f. f.commands ≡ self.commands.items) }
     {
         let Reader {
             arena,
@@ -227,10 +227,10 @@ impl Reader {
             used: _,
             commands,
         } = self;
-        FileTree {
+        Ok(FileTree {
             arena,
-            shared,
+            shared: Shared::of(alloc, shared)?,
             commands: Items::of(commands),
-        }
+        })
     }
 }

@@ -1,14 +1,14 @@
-ghost use Rattle.std.specs.Prelude.{List, [], ◌∷◌, ◌++◌, IfOk, OnOk, unwrap_or};
+ghost use Rattle.std.specs.Prelude.{List, [], ◌∷◌, ◌++◌, IfOk, OnOk};
 ghost use Rattle.alg_expr.specs.Arena.{Extends};
-ghost use Rattle.alg_parse.specs.Told.{Call, plain, combination, call_of, further_calls, calls_of};
+ghost use Rattle.alg_parse.specs.Told.{Call, combination, calls_named, calls_at, further_calls, calls_of};
 ghost use Rattle.alg_parse.specs.FileTrees.{IsCall, AreCalls};
-ghost use Rattle.alg_parse.specs.Procedures.{procedure_named};
-ghost use Rattle.alg_parse.specs.declared.procedures.Proc.TheVariants as proc;
+ghost use Rattle.alg_binders.specs.Procedures.{procedure_named};
 ghost use Rattle.alg_terms.specs.Tree.{Tree};
 ghost use Rattle.alg_elaborate.specs.Raw.{meant};
 ghost use Rattle.alg_combinations.specs.Combined.{combined};
 
-use crate::procedures::{Proc, procedure_named};
+use crate::procedures::Proc;
+use alg_binders::procedure_named;
 use alg_combinations::build_combination;
 use alg_elaborate::mark_proofs;
 use alg_expr::{Arena, Items, Memory, Sort};
@@ -18,15 +18,15 @@ use alg_syntax::scripts::{Further, Script, Step};
 use alg_syntax::signs::Name;
 use std::alloc::Global;
 
-// The procedure with this name, where there is one.
-#[tactic(auto, using(crate::proofs::CallLaws::named_call, crate::proofs::CallLaws::unnamed_call))]
-fn procedure_of<'a>(name: &Name<'a>) -> Proc
-    ensures { (ts : List Tree) → IsCall ts result (plain (unwrap_or (procedure_named name.now.text) proc.NormNum)) }
+// The procedure with this name. Without one, the name is a fault.
+#[tactic(auto, using(crate::proofs::CallLaws::named_added, crate::proofs::CallLaws::none_added))]
+fn add_named<'a>(name: &Name<'a>, procs: &mut Vec<Proc>) -> Result<(), Memory>
+    ensures { OnOk result ((ts : List Tree) (cs : List Call) → AreCalls ts procs.old.items cs → AreCalls ts procs.new.items (cs ++ calls_named (procedure_named name.now.text))) }
 {
-    match procedure_named(name.text()) {
-        Some(procedure) => procedure,
-        None => Proc::NormNum,
+    if let Some(procedure) = procedure_named(name.text()) {
+        procs.push(Proc::Named(procedure))?;
     }
+    Ok(())
 }
 
 // The combination that an expression is.
@@ -47,25 +47,25 @@ fn combination_of<'a>(
     Ok(Proc::LinearCombination(combo))
 }
 
-// A procedure without a fault, on a goal of the sort `kind`.
-fn build_step<'a>(
+#[tactic(auto, using(crate::proofs::CallLaws::calls_grown))]
+fn add_combination<'a>(
     alloc: Global,
     arena: &mut Arena,
     scope: &Scope,
     kind: Sort,
-    step: &Step<'a>,
-) -> Result<Proc, Memory>
+    expression: &Expression<'a>,
+    procs: &mut Vec<Proc>,
+) -> Result<(), Memory>
     ensures kept { Extends arena.old arena.new }
-    ensures told { IfOk result (λ p. IsCall arena.new p (call_of scope.now kind step.now)) }
+    ensures told { OnOk result ((cs : List Call) → AreCalls arena.old procs.old.items cs → AreCalls arena.new procs.new.items (cs ++ combination (combined scope.now kind (meant expression.now)) ∷ [])) }
 {
-    match step {
-        Step::Combination(_, expression) => combination_of(alloc, arena, scope, kind, expression),
-        Step::Procedure(name) => Ok(procedure_of(name)),
-    }
+    let procedure = combination_of(alloc, arena, scope, kind, expression)?;
+    procs.push(procedure)?;
+    Ok(())
 }
 
-// One more procedure.
-#[tactic(auto, using(crate::proofs::CallLaws::calls_grown))]
+// A procedure without a fault, on a goal of the sort `kind`.
+#[tactic(auto, using(crate::proofs::CallLaws::extends_self))]
 fn add_step<'a>(
     alloc: Global,
     arena: &mut Arena,
@@ -75,11 +75,14 @@ fn add_step<'a>(
     procs: &mut Vec<Proc>,
 ) -> Result<(), Memory>
     ensures kept { Extends arena.old arena.new }
-    ensures told { OnOk result ((cs : List Call) → AreCalls arena.old procs.old.items cs → AreCalls arena.new procs.new.items (cs ++ call_of scope.now kind step.now ∷ [])) }
+    ensures told { OnOk result ((cs : List Call) → AreCalls arena.old procs.old.items cs → AreCalls arena.new procs.new.items (cs ++ calls_at scope.now kind step.now)) }
 {
-    let procedure = build_step(alloc, arena, scope, kind, step)?;
-    procs.push(procedure)?;
-    Ok(())
+    match step {
+        Step::Combination(_, expression) => add_combination(
+            alloc, arena, scope, kind, expression, procs,
+        ),
+        Step::Procedure(name) => add_named(name, procs),
+    }
 }
 
 #[tactic(auto, using(crate::proofs::CallLaws::further_start, crate::proofs::CallLaws::further_end))]

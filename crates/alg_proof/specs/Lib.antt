@@ -1,4 +1,5 @@
 pub mod Names
+pub mod KeptNames
 pub mod Following
 pub mod LemmaRows
 pub mod Causes
@@ -7,14 +8,7 @@ pub mod LiteralLines
 pub mod Computations
 pub mod Steps
 pub mod Lines
+pub mod Places
+pub mod Citing
 pub mod Valid
-pub mod LiteralSums
-pub mod PatternSorts
-pub mod PatternLaws
-pub mod LawSorts
-pub mod Extending
-pub mod Derived
-pub mod LiteralOrder
-pub mod InstanceLaws
-pub mod ComputationLaws
 pub mod Admissible

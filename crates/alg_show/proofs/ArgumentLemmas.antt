@@ -4,7 +4,8 @@ use Rattle.std.specs.Prelude.{slice_get}
 use Rattle.std.proofs.lemmas.List.Elements.{All-head, All-tail}
 use Rattle.alg_terms.specs.declared.sorts.Sort.{Sort}
 use Rattle.alg_terms.specs.declared.symbols.Sym.{Sym}
-use Rattle.alg_terms.specs.Tree.{Tree, App, of_list, to_list-of_list}
+use Rattle.alg_terms.specs.Tree.{Tree, App, of_list}
+use Rattle.alg_terms.proofs.TreeLaws.{to_list-of_list}
 use Rattle.alg_expr.specs.declared.ids.ExprId.{ExprId}
 use Rattle.alg_expr.specs.Ids.{tree_of, IsIn, trees_at}
 use Rattle.alg_show.specs.Tasks.{parts_of, IsArgument}

@@ -6,8 +6,10 @@ use Rattle.alg_terms.specs.declared.sorts.Sort.{Sort}
 use Rattle.alg_terms.specs.declared.sorts.Sort.TheVariants.{Nat, Int}
 use Rattle.alg_terms.specs.declared.symbols.Sym.{Sym}
 use Rattle.alg_terms.specs.declared.symbols.Sym.TheVariants as sym_
-use Rattle.alg_terms.specs.Tree.{Tree, Lit, Var, App, Trees, Nil, Cons, to_list, of_list-to_list, sort_of_tree}
-use Rattle.alg_terms.specs.Order.{sort_same, sort_same-equal, sort_same-self}
+use Rattle.alg_terms.specs.Tree.{Tree, Lit, Var, App, Trees, Nil, Cons, to_list, sort_of_tree}
+use Rattle.alg_terms.proofs.TreeLaws.{of_list-to_list}
+use Rattle.alg_terms.specs.Order.{sort_same}
+use Rattle.alg_terms.proofs.OrderLaws.{sort_same-equal, sort_same-self}
 use Rattle.alg_terms.specs.Symbols.{serves, is_integral}
 use Rattle.alg_expr.specs.Applying.{arity_fits, sorts_fit}
 use Rattle.alg_law.specs.Declarations.{Declaration}

@@ -132,7 +132,7 @@ stands ds w n =
     let all = λ (i : ℕ). means_all at_first ds n i i (omega arith) in
     let keep = λ (x : List ℕ) (m : Meaning) (e : found built_in x ≡ Some m). entered_kept at_first ds x m e in
     record {
-      agrees = (entered-follows at_first [] ds (start-follows at_first refl refl refl) w).agrees;
+      agrees = (entered-follows at_first [] ds (start-follows at_first refl refl refl refl) w).agrees;
       sorts = sorts_mean;
       variables = λ d l e. means_variable (scope_of ds) d l (slice_get ds d) (all d) e;
       functions = λ d ls l e. means_function (scope_of ds) d ls l (slice_get ds d) (all d) e;

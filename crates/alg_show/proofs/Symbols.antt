@@ -7,7 +7,8 @@ use Rattle.alg_terms.specs.declared.sorts.Sort.TheVariants.{Nat, Int, Rat, Decl}
 use Rattle.alg_terms.specs.declared.symbols.Sym.{Sym}
 use Rattle.alg_terms.specs.declared.symbols.Sym.TheVariants as symbol
 use Rattle.alg_terms.specs.Tree.{Tree, Lit, Var, App, Trees, Nil, Cons, sort_of_tree}
-use Rattle.alg_terms.specs.Order.{sort_same, sort_same-equal}
+use Rattle.alg_terms.specs.Order.{sort_same}
+use Rattle.alg_terms.proofs.OrderLaws.{sort_same-equal}
 use Rattle.alg_terms.specs.Symbols.{serves, is_integral, arguments_fit}
 use Rattle.alg_law.specs.declared.classes.Class.{Class}
 use Rattle.alg_law.specs.declared.classes.Class.TheVariants.{AddGroup, Group, Field}
@@ -15,7 +16,7 @@ use Rattle.alg_law.specs.declared.marks.Mark.TheVariants.{Good, BadSort}
 use Rattle.alg_law.specs.Declarations.{Declaration, Carrier, Instance, Variable, Function, Hypothesis}
 use Rattle.alg_law.specs.Having.{has_class, instance_gives, instances_give}
 use Rattle.alg_law.specs.WellSorted.{class_mark, same_mark, literal_class, of_sort, variable_of, function_of, of_function, sorts_agree, sorts_same, sort_mark, has_classes, symbol_mark, sorts_of, head_mark, mark_of, marks_of, IsWellSorted, AreWellSorted}
-use Rattle.alg_law.specs.WellSortedLaws.{worse-parts}
+use Rattle.alg_law.proofs.WellSortedLaws.{worse-parts}
 use Rattle.alg_syntax.specs.declared.signs.Operator.{Operator}
 use Rattle.alg_syntax.specs.declared.signs.Operator.TheVariants.{Add, Sub, Mul, Div, Mod}
 use Rattle.alg_names.specs.declared.scope.Scope.{Scope}

@@ -7,7 +7,5 @@ mod notation;
 mod printing;
 mod statements;
 mod tasks;
-#[cfg(test)]
-mod tests;
 
 pub use statements::show;

@@ -8,12 +8,14 @@ use alg_law::{Base, Declared};
 pub(crate) fn name_at(base: &Base, k: u32) -> &str
     ensures { result.now ≡ name_at base.now k }
 {
-    match base.declarations().list.get(k as usize) {
-        Some(Declared::Carrier { name }) => name.as_str(),
-        Some(Declared::Variable { name, .. }) => name.as_str(),
-        Some(Declared::Function { name, .. }) => name.as_str(),
-        Some(Declared::Hypothesis { name, .. }) => name.as_str(),
-        Some(Declared::Instance { .. }) => "",
+    match base.declaration(k as usize) {
+        Some(lent) => match lent.declared {
+            Declared::Carrier { name } => name.as_str(),
+            Declared::Variable { name, .. } => name.as_str(),
+            Declared::Function { name, .. } => name.as_str(),
+            Declared::Hypothesis { name, .. } => name.as_str(),
+            Declared::Instance { .. } => "",
+        },
         None => "",
     }
 }

@@ -339,6 +339,7 @@ pub fn show(alloc: Global, base: &Base, arena: &Arena, s: Stmt) -> Result<String
     ensures reads_back { IfOk result (λ t. AreDeclarable base.now → ReadsBack base.now (statement_of arena.now s) (string_bytes t)) }
     ensures read { IfOk result (λ t. AreDeclarable base.now → IsWithinLimits base.now (statement_of arena.now s) → IsReadAsGoal base.now (statement_of arena.now s) (string_bytes t)) }
 {
+    // the clauses of `len` say that the declarations are well formed
     let _declared = base.len();
     let mut out = String::new(alloc);
     let mut tasks: Vec<Task> = Vec::new(alloc);

@@ -1,7 +1,5 @@
-use crate::commands::read_command;
 use crate::expressions::{Expression, read_expression};
 use crate::front::Tokens;
-use crate::limits::is_too_deep;
 use crate::nodes::Node;
 use crate::signs::Operator;
 use alg_lex::{Lexer, Token};
@@ -93,91 +91,6 @@ fn precedences(rt: HostRuntime) -> Result<(), Fail> {
         let expression = read(&rt, alloc, &tokens, text)?;
         let found = postfix(alloc, &expression)?;
         assert!(rt; found.as_str() == want, "{text} was read as {found}");
-    }
-    Ok(())
-}
-
-#[test]
-fn commands(rt: HostRuntime) -> Result<(), Fail> {
-    let alloc = rt.alloc();
-    let table = [
-        ("import Mathlib.Tactic", true),
-        (
-            "variable (a b : ℤ) {S : Type*} [CommRing S] (f : S → S -> ℤ) (h : a <= b)",
-            true,
-        ),
-        ("theorem t (a : ℤ) : a + 0 = a := by ring", true),
-        ("lemma t : 1 > 0 := by norm_num", true),
-        ("example : 1 ≥ 0 := by ring; ring1\nnorm_num", true),
-        ("example : a = b := by linear_combination h\nring", true),
-        ("example : a = b := by linear_combination\nring", true),
-        ("example : a = b := by linear_combination 2 * h; ring", true),
-        ("example : a = b := by ring ring1", false),
-        ("example : a = b := by ring;", false),
-        ("example : a = b := by linear_combination", false),
-        ("example : a = b := by", false),
-        ("example : a < b < c := by ring", false),
-        ("example : f\na = b := by ring", false),
-        ("example : (a : ℤ = b := by ring", false),
-        ("variable", false),
-        ("variable {a : ℤ)", false),
-        ("variable [CommRing]", false),
-        ("import A B", false),
-        ("a = b", false),
-        ("", false),
-    ];
-    for (text, want) in table {
-        let tokens = tokens(&rt, alloc, text)?;
-        let found = read_command(alloc, &tokens)?.is_some();
-        assert!(rt; found == want, "{text} was read: {found}");
-    }
-    Ok(())
-}
-
-fn repeated(alloc: Global, piece: &str, times: usize, end: &str) -> Result<String, Fail> {
-    let mut out = String::new(alloc);
-    for _ in 0..times {
-        out.push_str(piece)?;
-    }
-    out.push_str(end)?;
-    Ok(out)
-}
-
-// Long chains are read without a recursion.
-#[test]
-fn deep(rt: HostRuntime) -> Result<(), Fail> {
-    let alloc = rt.alloc();
-    let table = [
-        ("- ", 4095, "a", 4096),
-        ("a ^ ", 2047, "a", 4095),
-        ("a + ", 2047, "a", 4095),
-    ];
-    for (piece, times, end, size) in table {
-        let text = repeated(alloc, piece, times, end)?;
-        let tokens = tokens(&rt, alloc, text.as_str())?;
-        let expression = read(&rt, alloc, &tokens, piece)?;
-        let (_, nodes) = expression.nodes();
-        assert_eq!(rt; nodes.len(), size);
-        assert!(rt; !is_too_deep(&tokens));
-    }
-    Ok(())
-}
-
-#[test]
-fn limits(rt: HostRuntime) -> Result<(), Fail> {
-    let alloc = rt.alloc();
-    let table = [
-        ("(", 256, "a", false),
-        ("(", 257, "a", true),
-        (")", 300, "((", false),
-        ("[ { ", 128, "[", true),
-        ("a ", 4096, "", false),
-        ("a ", 4096, "a", true),
-    ];
-    for (piece, times, end, want) in table {
-        let text = repeated(alloc, piece, times, end)?;
-        let tokens = tokens(&rt, alloc, text.as_str())?;
-        assert!(rt; is_too_deep(&tokens) == want, "{times} times {piece}");
     }
     Ok(())
 }

@@ -1,6 +1,5 @@
 -- Typed trees, and statements about them.
-use Rattle.std.specs.Prelude.{◌≡◌, ℕ, ◌+◌, List, [], ◌∷◌, refl}
-use Rattle.std.proofs.Common.{ap}
+use Rattle.std.specs.Prelude.{ℕ, ◌+◌, List, [], ◌∷◌}
 use Rattle.alg_terms.specs.declared.sorts.Sort.{Sort}
 use Rattle.alg_terms.specs.declared.symbols.Sym.{Sym}
 use Rattle.alg_terms.specs.declared.relations.Rel.{Rel}
@@ -27,14 +26,6 @@ to_list (Cons t ts) = t ∷ to_list ts
 abbrev pub of_list : List Tree → Trees
 of_list [] = Nil
 of_list (t ∷ ts) = Cons t (of_list ts)
-
-pub to_list-of_list : (ts : List Tree) → to_list (of_list ts) ≡ ts
-to_list-of_list [] = refl
-to_list-of_list (t ∷ ts) = ap (λ r. t ∷ r) (to_list-of_list ts)
-
-pub of_list-to_list : (ts : Trees) → of_list (to_list ts) ≡ ts
-of_list-to_list Nil = refl
-of_list-to_list (Cons t ts) = ap (Cons t) (of_list-to_list ts)
 
 -- how many nodes a tree has, written out
 abbrev mutual

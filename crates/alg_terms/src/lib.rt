@@ -3,11 +3,13 @@
 #![tactic(auto)]
 
 mod causes;
+mod literals;
 mod relations;
 mod sorts;
 mod symbols;
 
 pub use causes::BadCause;
+pub use literals::GREATEST_LITERAL;
 pub use relations::Rel;
 pub use sorts::Sort;
 pub use symbols::{Place, Sym};

@@ -4,11 +4,13 @@ use Rattle.alg_terms.specs.declared.sorts.Sort.{Sort}
 use Rattle.alg_terms.specs.declared.symbols.Sym.{Sym}
 use Rattle.alg_terms.specs.declared.symbols.Sym.TheVariants.{Apply}
 use Rattle.alg_terms.specs.Symbols.{serves}
+use Rattle.alg_terms.specs.Tree.{Statement}
 use Rattle.alg_law.specs.declared.classes.Class.{Class}
 use Rattle.alg_law.specs.declared.marks.Mark.TheVariants.{Good}
-use Rattle.alg_law.specs.Declarations.{Declaration}
+use Rattle.alg_law.specs.Declarations.{Declaration, hypotheses}
 use Rattle.alg_law.specs.Following.{IsKnown}
 use Rattle.alg_law.specs.Having.{instances_give}
+use Rattle.alg_law.specs.Prefixes.{line_at}
 use Rattle.alg_law.specs.WellSorted.{variable_of, function_of, symbol_mark, has_classes}
 use Rattle.alg_names.specs.declared.meanings.Meaning.{Meaning}
 use Rattle.alg_names.specs.declared.meanings.Meaning.TheVariants as meaning
@@ -38,7 +40,7 @@ Means ds (meaning.SortName l) = IsKnown ds l
 Means ds (meaning.Variable d l) = (variable_of (slice_get ds d) ≡ Some l) × IsKnown ds l
 Means ds (meaning.Function f ls l) = IsFunction ds f ls l
 Means ds (meaning.Shared f n) = IsShared f n
-Means ds (meaning.Hypothesis n r l) = ⊤
+Means ds (meaning.Hypothesis n r l) = (h : Statement) × (line_at (hypotheses ds) n ≡ Some h) × (h.rel ≡ r) × (h.sort ≡ l)
 
 abbrev pub IsMeant : List Declaration → Option Meaning → Type 0
 IsMeant ds None = ⊤
@@ -53,7 +55,8 @@ pub record Agrees (s : Scope) (ds : List Declaration) : Type 0 where
   pub names : AreMeant ds s.names
   pub classes : (l : Sort) (c : Class) → instances_give (instances s) l c ≡ instances_give ds l c
 
--- and the next declaration gets the next number
+-- and the next declaration and the next hypothesis get the next numbers
 pub record Follows (s : Scope) (ds : List Declaration) : Type 0 where
   pub agrees : Agrees s ds
   pub counted : s.declared ≡ length ds
+  pub given : s.hypotheses ≡ length (hypotheses ds)

@@ -16,7 +16,7 @@ use Rattle.alg_law.specs.declared.marks.Mark.TheVariants.{Good}
 use Rattle.alg_law.specs.Declarations.{Declaration}
 use Rattle.alg_law.specs.Following.{IsKnown}
 use Rattle.alg_law.specs.WellSorted.{sort_mark, symbol_mark, built_in_mark, head_mark, has_classes, mark_of, marks_of, sorts_of, worse, IsWellSorted}
-use Rattle.alg_law.specs.WellSortedLaws.{worse-good}
+use Rattle.alg_law.proofs.WellSortedLaws.{worse-good}
 use Rattle.alg_elaborate.specs.Operations.{power_symbol, multiple_symbol}
 use Rattle.alg_elaborate.specs.TypedTrees.{tree_where, compound}
 use Rattle.alg_well_sorted.specs.Parts.{and_true, mark_true, mark_parts, same_sort}

@@ -8,13 +8,16 @@ use Rattle.alg_terms.specs.declared.sorts.Sort.TheVariants.{Nat, Int, Rat, Decl}
 use Rattle.alg_terms.specs.declared.symbols.Sym.{Sym}
 use Rattle.alg_terms.specs.declared.symbols.Sym.TheVariants.{Abs, Min, Max, Gcd, Lcm, Fact, Choose, Fib, Apply}
 use Rattle.alg_terms.specs.Order.{sort_same}
+use Rattle.alg_terms.specs.Tree.{Statement}
 use Rattle.alg_law.specs.declared.classes.Class.{Class}
 use Rattle.alg_law.specs.declared.marks.Mark.{Mark}
 use Rattle.alg_law.specs.declared.marks.Mark.TheVariants.{Good, BadName}
-use Rattle.alg_law.specs.Declarations.{Declaration, Carrier, Instance, Variable, Function, Hypothesis}
+use Rattle.alg_law.specs.Declarations.{Declaration, Carrier, Instance, Variable, Function, Hypothesis, hypotheses}
 use Rattle.alg_law.specs.Following.{IsKnown, MayFollow, AllMayFollow}
 use Rattle.alg_law.specs.Having.{instance_gives, instances_give}
+use Rattle.alg_law.specs.Prefixes.{line_at}
 use Rattle.alg_law.specs.WellSorted.{is_type, variable_of, function_of, symbol_mark}
+use Rattle.alg_law.proofs.PrefixLemmas.{hypotheses-append}
 use Rattle.alg_names.specs.declared.grants.Granted.{Granted}
 use Rattle.alg_names.specs.declared.meanings.Meaning.{Meaning}
 use Rattle.alg_names.specs.declared.meanings.Meaning.TheVariants as meaning
@@ -74,13 +77,22 @@ applies-more : (ds es : List Declaration) (f : Sym) (ls : List Sort) (l : Sort) 
 applies-more ds es _ _ _ (by_declaration j ls l e) = by_declaration j ls l (function-more ds es j (ls, l) e)
 applies-more ds es _ _ _ (always f ls l h) = always f ls l h
 
+got-more : (hs gs : List Statement) (i : ℕ) (h : Statement) → slice_get hs i ≡ Some h → slice_get (hs ++ gs) i ≡ Some h
+got-more [] gs i h e = cc
+got-more (x ∷ hs) gs zero h e = e
+got-more (x ∷ hs) gs (suc i) h e = got-more hs gs i h e
+
+line-more : (hs gs : List Statement) (n : ℕ) (h : Statement) → line_at hs n ≡ Some h → line_at (hs ++ gs) n ≡ Some h
+line-more hs gs zero h e = cc
+line-more hs gs (suc i) h e = got-more hs gs i h e
+
 means-more : (ds es : List Declaration) (m : Meaning) → Means ds m → Means (ds ++ es) m
 means-more ds es (meaning.SortName l) h = known-more ds es l h
 means-more ds es (meaning.Variable d l) h = (variable-more ds es d l h.0, known-more ds es l h.1)
 means-more ds es (meaning.Function f ls l) h =
     record { arguments = all_known-more ds es ls h.arguments; value = known-more ds es l h.value; applies = applies-more ds es f ls l h.applies }
 means-more ds es (meaning.Shared f n) h = h
-means-more ds es (meaning.Hypothesis n r l) h = tt
+means-more ds es (meaning.Hypothesis n r l) h = (h.0, ap (λ hs. line_at hs n) (hypotheses-append ds es) ∙ line-more (hypotheses ds) (hypotheses es) n h.0 h.1, h.2, h.3)
 
 meant-more : (ds es : List Declaration) (ns : List (List ℕ × Meaning)) → AreMeant ds ns → AreMeant (ds ++ es) ns
 meant-more ds es [] h = tt
@@ -101,9 +113,26 @@ agrees-more s ds d a f =
       classes = λ l c. none_given (instances s) ds d l c (a.classes l c) (f l c);
     }
 
-last_got : (ds : List Declaration) (d : Declaration) → slice_get (ds ++ d ∷ []) (length ds) ≡ Some d
+last_got : {X : Type 0} (ds : List X) (d : X) → slice_get (ds ++ d ∷ []) (length ds) ≡ Some d
 last_got [] d = refl
 last_got (x ∷ ds) d = last_got ds d
+
+-- no hypothesis more, and one more
+given-pass : (n : ℕ) (ds : List Declaration) (d : Declaration) → hypotheses (d ∷ []) ≡ [] → n ≡ length (hypotheses ds) → n ≡ length (hypotheses (ds ++ d ∷ []))
+given-pass n ds d e h = h ∙ ap length (sym (append-nil (hypotheses ds)) ∙ ap (λ hs. hypotheses ds ++ hs) (sym e) ∙ sym (hypotheses-append ds (d ∷ [])))
+
+one_given : (ds : List Declaration) (x : List ℕ) (p : Statement) → hypotheses (ds ++ Hypothesis x p ∷ []) ≡ hypotheses ds ++ p ∷ []
+one_given ds x p = hypotheses-append ds (Hypothesis x p ∷ [])
+
+one_longer_list : (hs : List Statement) (p : Statement) → length (hs ++ p ∷ []) ≡ suc (length hs)
+one_longer_list [] p = refl
+one_longer_list (h ∷ hs) p = ap suc (one_longer_list hs p)
+
+given-push : (n : ℕ) (ds : List Declaration) (x : List ℕ) (p : Statement) → n ≡ length (hypotheses ds) → suc n ≡ length (hypotheses (ds ++ Hypothesis x p ∷ []))
+given-push n ds x p h = ap suc h ∙ sym (one_longer_list (hypotheses ds) p) ∙ ap length (sym (one_given ds x p))
+
+hypothesis_at : (n : ℕ) (ds : List Declaration) (x : List ℕ) (p : Statement) → n ≡ length (hypotheses ds) → line_at (hypotheses (ds ++ Hypothesis x p ∷ [])) (suc n) ≡ Some p
+hypothesis_at n ds x p h = ap (λ hs. slice_get hs n) (one_given ds x p) ∙ ap (λ j. slice_get (hypotheses ds ++ p ∷ []) j) h ∙ last_got (hypotheses ds) p
 
 one_longer : (ds : List Declaration) (d : Declaration) → length (ds ++ d ∷ []) ≡ suc (length ds)
 one_longer [] d = refl
@@ -129,6 +158,7 @@ enter-follows s ds (Carrier n) h m =
             classes = λ l c. none_given (instances s) ds (Carrier n) l c (h.agrees.classes l c) refl;
           };
       counted = longer s ds (Carrier n) h.counted;
+      given = given-pass s.hypotheses ds (Carrier n) refl h.given;
     }
 enter-follows s ds (Instance k b) h m =
     record {
@@ -139,6 +169,7 @@ enter-follows s ds (Instance k b) h m =
                 ∙ granted_more s ds k b l c (h.agrees.classes l c);
           };
       counted = longer s ds (Instance k b) h.counted;
+      given = given-pass s.hypotheses ds (Instance k b) refl h.given;
     }
 enter-follows s ds (Variable n l) h m =
     record {
@@ -149,6 +180,7 @@ enter-follows s ds (Variable n l) h m =
             classes = λ j c. none_given (instances s) ds (Variable n l) j c (h.agrees.classes j c) refl;
           };
       counted = longer s ds (Variable n l) h.counted;
+      given = given-pass s.hypotheses ds (Variable n l) refl h.given;
     }
 enter-follows s ds (Function n ls l) h m =
     record {
@@ -163,15 +195,18 @@ enter-follows s ds (Function n ls l) h m =
             classes = λ j c. none_given (instances s) ds (Function n ls l) j c (h.agrees.classes j c) refl;
           };
       counted = longer s ds (Function n ls l) h.counted;
+      given = given-pass s.hypotheses ds (Function n ls l) refl h.given;
     }
 enter-follows s ds (Hypothesis n p) h m =
     record {
       agrees =
           record {
-            names = meant-push (ds ++ Hypothesis n p ∷ []) s.names (n, meaning.Hypothesis (suc s.hypotheses) p.rel p.sort) (meant-more ds (Hypothesis n p ∷ []) s.names h.agrees.names) tt;
+            names = meant-push (ds ++ Hypothesis n p ∷ []) s.names (n, meaning.Hypothesis (suc s.hypotheses) p.rel p.sort) (meant-more ds (Hypothesis n p ∷ []) s.names h.agrees.names)
+                (p, hypothesis_at s.hypotheses ds n p h.given, refl, refl);
             classes = λ l c. none_given (instances s) ds (Hypothesis n p) l c (h.agrees.classes l c) refl;
           };
       counted = longer s ds (Hypothesis n p) h.counted;
+      given = given-push s.hypotheses ds n p h.given;
     }
 
 pub entered-follows : (s : Scope) (ds es : List Declaration) → Follows s ds → AllMayFollow ds es → Follows (entered s es) (ds ++ es)
@@ -212,8 +247,8 @@ built_in_meant =
     (refl, (refl, (refl, (refl, (refl, (refl, (abs_shared, (min_shared, (max_shared, (of_two Gcd (λ es. refl), (of_two Lcm (λ es. refl), (of_one Fact (λ es. refl), (of_two Choose (λ es. refl), (of_one Fib (λ es. refl), tt))))))))))))))
 
 -- before anything is declared
-pub start-follows : (s : Scope) → s.names ≡ built_in → s.granted ≡ [] → s.declared ≡ 0 → Follows s []
-start-follows s n g d =
+pub start-follows : (s : Scope) → s.names ≡ built_in → s.granted ≡ [] → s.declared ≡ 0 → s.hypotheses ≡ 0 → Follows s []
+start-follows s n g d h =
     record {
       agrees =
           record {
@@ -221,4 +256,5 @@ start-follows s n g d =
             classes = λ l c. ap (λ gs. instances_give (map (λ (x : Granted). Instance x.sort x.class) gs) l c) g;
           };
       counted = d;
+      given = h;
     }

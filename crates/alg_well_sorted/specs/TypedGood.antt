@@ -15,7 +15,7 @@ use Rattle.alg_law.specs.Declarations.{Declaration}
 use Rattle.alg_law.specs.Following.{IsKnown}
 use Rattle.alg_law.specs.Having.{has_class}
 use Rattle.alg_law.specs.WellSorted.{sort_mark, literal_class, class_mark, same_mark, of_sort as of_sort_mark, variable_of, function_of, of_function, sorts_same, sorts_agree, symbol_mark, has_classes, mark_of, marks_of, IsWellSorted}
-use Rattle.alg_law.specs.WellSortedLaws.{worse-good}
+use Rattle.alg_law.proofs.WellSortedLaws.{worse-good}
 use Rattle.alg_syntax.specs.declared.signs.Operator.TheVariants.{Add, Sub, Mul, Div, Mod, Smul, Pow}
 use Rattle.alg_names.specs.declared.meanings.Meaning.{Meaning}
 use Rattle.alg_names.specs.declared.meanings.Meaning.TheVariants.{SortName, Variable, Function, Shared, Hypothesis}
@@ -54,7 +54,7 @@ variable-good ds d k l v known e =
       sort = refl;
     }
 
-name-typed : (ds : List Declaration) (k : Sort) (m : Option Meaning) → IsMeant ds m → IsKnown ds k → name_faults false k m ≡ [] → IsOfSort ds k (typed_name k m)
+pub name-typed : (ds : List Declaration) (k : Sort) (m : Option Meaning) → IsMeant ds m → IsKnown ds k → name_faults false k m ≡ [] → IsOfSort ds k (typed_name k m)
 name-typed ds k None h known e = cc
 name-typed ds k (Some (SortName l)) h known e = cc
 name-typed ds k (Some (Variable d l)) h known e = variable-good ds d k l h.0 known (differs_none k l e)

@@ -1,7 +1,7 @@
 use Rattle.std.proofs.Common.{rules, ◌≡◌, ℕ, ◌+◌, suc, arith, ◌∷◌, None, sym, ap, ◌∙◌, subst, drop}
 use Rattle.std.specs.Prelude.{IfNone}
 use Rattle.std.proofs.Math.Seq.{drop-cons}
-use Rattle.alg_expr.specs.Arena.{Extends-then}
+use Rattle.alg_expr.proofs.ArenaLaws.{Extends-then}
 use Rattle.alg_law.specs.Declarations.{declarations_of}
 use Rattle.alg_binders.specs.Adding.{Adds}
 use Rattle.alg_binders.specs.Binders.{binder_faults, declared_by}

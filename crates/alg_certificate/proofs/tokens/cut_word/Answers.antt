@@ -1,5 +1,5 @@
 use Rattle.std.proofs.Common.{arith}
-use Rattle.alg_certificate.specs.LexingLaws.{front_within, cut_is}
+use Rattle.alg_certificate.proofs.LexingLaws.{front_within, cut_is}
 use Rattle.alg_certificate.proofs.tokens.cut_word.Goals as goal
 
 pub split_at-requires : goal.split_at-requires

@@ -1,7 +1,7 @@
 use Rattle.std.proofs.Common.{sym, ◌∙◌}
 use Rattle.alg_certificate.proofs.Walking.{at_over, at_fail, at_move}
-use Rattle.alg_certificate.specs.TokenLaws.{shorter}
-use Rattle.alg_certificate.specs.LexingLaws.{token_sound}
+use Rattle.alg_certificate.proofs.TokenLaws.{shorter}
+use Rattle.alg_certificate.proofs.LexingLaws.{token_sound}
 use Rattle.alg_certificate.proofs.walks.allows.Goals as goal
 
 pub returns-in_default-moved : goal.returns-in_default-moved

@@ -3,8 +3,8 @@ use Rattle.alg_expr.specs.Ids.{IsIn, trees_at}
 use Rattle.alg_certificate.specs.Lexed.{tokens}
 use Rattle.alg_certificate_lines.specs.Steps.{all_good}
 use Rattle.alg_certificate_lines.specs.Taking.{all_taken}
-use Rattle.alg_certificate.specs.TokenLaws.{shorter}
-use Rattle.alg_certificate.specs.LexingLaws.{token_sound}
+use Rattle.alg_certificate.proofs.TokenLaws.{shorter}
+use Rattle.alg_certificate.proofs.LexingLaws.{token_sound}
 use Rattle.alg_certificate_lines.proofs.LoopLaws.{taken_next, taken_over, taken_fault}
 use Rattle.alg_certificate_lines.proofs.building.build_trees.Goals as goal
 

@@ -1,6 +1,6 @@
 use Rattle.std.proofs.Common.{subst}
 use Rattle.alg_certificate_lines.specs.Given.{Gives}
-use Rattle.alg_certificate_lines.specs.ReadBackLaws.{statement_back}
+use Rattle.alg_certificate_lines.proofs.ReadBackLaws.{statement_back}
 use Rattle.alg_certificate_lines.proofs.GivenLaws.{cut_parts, no_cut}
 use Rattle.alg_certificate_lines.proofs.given.build_given.Goals as goal
 

@@ -1,6 +1,6 @@
 use Rattle.std.proofs.Common.{rules, sym, ◌∙◌}
-use Rattle.alg_certificate.specs.TokenLaws.{shorter}
-use Rattle.alg_certificate.specs.LexingLaws.{token_sound}
+use Rattle.alg_certificate.proofs.TokenLaws.{shorter}
+use Rattle.alg_certificate.proofs.LexingLaws.{token_sound}
 use Rattle.alg_certificate_lines.proofs.KnownLaws.{known_over, known_stop, known_on}
 use Rattle.alg_certificate_lines.proofs.known.are_known.Goals as goal
 

@@ -1,6 +1,6 @@
 use Rattle.std.proofs.Common.{subst}
 use Rattle.alg_certificate_lines.specs.Steps.{GivesLine}
-use Rattle.alg_certificate_lines.specs.ReadBackLaws.{step_back}
+use Rattle.alg_certificate_lines.proofs.ReadBackLaws.{step_back}
 use Rattle.alg_certificate_lines.proofs.LineLaws.{line_spelled, no_head}
 use Rattle.alg_certificate_lines.proofs.lines.build_line.Goals as goal
 

@@ -3,7 +3,7 @@ use Rattle.std.proofs.lemmas.Option.{none-some}
 use Rattle.alg_terms.specs.Tree.{Cons, Nil}
 use Rattle.alg_proof.specs.declared.lines.BridgeKind.{BridgeKind}
 use Rattle.alg_proof.specs.Steps.{Bridge}
-use Rattle.alg_certificate.specs.NumberLaws.{some_is}
+use Rattle.alg_certificate.proofs.NumberLaws.{some_is}
 use Rattle.alg_certificate.specs.Spelling.{bytes, spell_items, tree}
 use Rattle.alg_certificate_lines.specs.Steps.{over_tree, trees_read, GivesLine}
 use Rattle.alg_certificate_lines.proofs.CutLaws.{bridge_cut_is}

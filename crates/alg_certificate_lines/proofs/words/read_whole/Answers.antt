@@ -1,5 +1,5 @@
 use Rattle.std.proofs.Common.{sym}
-use Rattle.alg_certificate.specs.NumberLaws.{number_sound}
+use Rattle.alg_certificate.proofs.NumberLaws.{number_sound}
 use Rattle.alg_certificate_lines.proofs.words.read_whole.Goals as goal
 
 pub returns-then-is_empty-clause-in_range : goal.returns-then-is_empty-clause-in_range

@@ -2,7 +2,7 @@ use Rattle.std.proofs.Common.{◌≡◌, ◌∙◌, Ok, ap, arith}
 use Rattle.std.specs.Prelude.{map}
 use Rattle.alg_proof.specs.LemmaRows.{rows_of}
 use Rattle.alg_certificate.specs.Reader.{coming_of}
-use Rattle.alg_check.specs.EntryLaws.{entries_of_reader}
+use Rattle.alg_check.proofs.EntryLaws.{entries_of_reader}
 use Rattle.alg_check.specs.Goals.{goals_seen}
 use Rattle.alg_check.specs.Opened.{goal_seen}
 use Rattle.alg_check.specs.Text.{whole_text}

@@ -44,9 +44,9 @@ entries-preserved g c =
       stands = λ es h. next _ _ c.entries.reader c.next_entry.new.reader _ _ _ _ _ _ es (seen_entry c.in-Entry.entry) c.check_entry.result _ gives.0 c.check_entry.ensures.told c.check_entry.ensures.tally c.in_ok-check_entry-in-Entry.was (c.entries.invariant.stands es h);
       fault = gives.1 ∙ c.entries.invariant.fault;
       small = omega (arith, c.in_ok-check_entry-in-Entry.ensures.count, gives.2, c.entries.invariant.small);
-      faults = c.check_entry.ensures.kept (rw c.in_ok-check_entry-in-Entry.was (λ e. cc)) ∙ c.entries.invariant.faults;
+      faults = c.check_entry.ensures.faults.kept (rw c.in_ok-check_entry-in-Entry.was (λ e. cc)) ∙ c.entries.invariant.faults;
       says = says_then _ _ _ c.entries.invariant.says c.check_entry.ensures.says;
-      complaint_faults = c.check_entry.ensures.complaint_faults ∙ c.entries.invariant.complaint_faults;
+      complaint_faults = c.check_entry.ensures.faults.complaint_faults ∙ c.entries.invariant.complaint_faults;
     }
 
 pub returns-in_err-say_fault-in-Bad-clause-says : goal.returns-in_err-say_fault-in-Bad-clause-says

@@ -1,4 +1,4 @@
-use Rattle.alg_kernel.specs.Growing.{IsSound-extends}
+use Rattle.alg_kernel.proofs.Growing.{IsSound-extends}
 use Rattle.alg_kernel.specs.State.{progress_of}
 use Rattle.alg_proof.specs.Lines.{step_of}
 use Rattle.std.proofs.Common.{◌≡◌, ap, sym, ◌∙◌, Ok, subst}

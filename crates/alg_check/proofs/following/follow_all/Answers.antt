@@ -1,6 +1,6 @@
 use Rattle.std.proofs.Common.{◌≡◌, ◌+◌, ◌∷◌, [], List, ℕ, get_or, drop, rules, arith, sym, ◌∙◌, subst}
 use Rattle.std.specs.Borrow.{Bor}
-use Rattle.alg_expr.specs.Arena.{Extends-then}
+use Rattle.alg_expr.proofs.ArenaLaws.{Extends-then}
 use Rattle.alg_proof.specs.Steps.{Step, Theory}
 use Rattle.alg_certificate.specs.Spelling.{HasSpelling, step_bytes}
 use Rattle.alg_kernel.specs.State.{theory_of, progress_of}

@@ -1,8 +1,8 @@
-use Rattle.alg_cli.proofs.Judging.{called, of_another, holds, fails}
+use Rattle.alg_cli.proofs.Judging.{of_named, of_combination}
 use Rattle.alg_cli.proofs.proving.call.Goals as goal
 
-pub returns-then-is_norm_num-clause-cause : goal.returns-then-is_norm_num-clause-cause
-returns-then-is_norm_num-clause-cause c = called c.args.procedure.now _ _ (holds c.is_norm_num.result _ c.if-is_norm_num.true c.is_norm_num.ensures) c.close_by_norm_num.ensures.cause
+pub returns-in-Named-clause-cause : goal.returns-in-Named-clause-cause
+returns-in-Named-clause-cause c = of_named c.args.procedure.now _ _ _ c.in-Named.is c.call_named.ensures.cause
 
-pub returns-clause-cause : goal.returns-clause-cause
-returns-clause-cause c = of_another c.args.procedure.now _ (fails c.is_norm_num.result _ c.if-is_norm_num.false c.is_norm_num.ensures)
+pub returns-in-LinearCombination-clause-cause : goal.returns-in-LinearCombination-clause-cause
+returns-in-LinearCombination-clause-cause c = of_combination c.args.procedure.now _ _ c.in-LinearCombination.is

@@ -2,10 +2,14 @@ use Rattle.std.proofs.Common.{◌≡◌, ◌∙◌, ◌≤◌, length, ap, arith
 use Rattle.std.proofs.lemmas.List.{length-map}
 use Rattle.alg_expr.specs.Ids.{statement_of}
 use Rattle.alg_build.specs.Book.{Book}
+use Rattle.alg_build.proofs.AnswerLemmas.{concludes-within}
 use Rattle.alg_proof.specs.Lines.{step_of, steps_of}
 use Rattle.alg_certificate.specs.Numbers.{max_number}
 use Rattle.alg_cli.proofs.Spelled.{entry_is, same_claim}
 use Rattle.alg_cli.proofs.proving.check.Goals as goal
+
+pub back_to-requires : goal.back_to-requires
+back_to-requires c = concludes-within _ _ _ c.requires.concludes
 
 pub returns-in-Ok : goal.returns-in-Ok
 returns-in-Ok c =
@@ -17,5 +21,5 @@ returns-in-Ok c =
     let short : length (steps_of parts.arena c.deref.result.now) ≤ max_number = omega (arith, length-map c.deref.result.now (step_of parts.arena), ap length c.deref.ensures.value, c.len-lines.ensures, c.len-lines.type_inv) in (
       c.in-Ok.ensures.claim ∙ same_claim _ _ _ _ c.args.goal base (c.into_parts-base.ensures.arena ∙ ap (λ (b : Book). b.trees) c.back_to.ensures.lines),
       entry_is c.args.number _ _ ends _ _ _ c.in_ok-entry.entry c.requires.number c.requires.arguments base few (ap (λ (b : Book). b.theory) c.back_to.ensures.lines ∙ c.requires.theory)
-          (c.into_parts-base.ensures.valid ends (c.back_to.ensures.last ends c.requires.line_is)) lines short c.in_ok-entry.ensures,
+          (c.into_parts-base.ensures.valid ends (c.back_to.ensures.last ends c.requires.concludes.line)) lines short c.in_ok-entry.ensures,
     )

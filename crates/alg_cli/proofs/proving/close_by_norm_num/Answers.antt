@@ -1,5 +1,5 @@
 use Rattle.std.proofs.Common.{sym, subst}
-use Rattle.alg_certificate_lines.specs.SpellingLaws.{HaveArguments}
+use Rattle.alg_certificate_lines.specs.Arguments.{HaveArguments}
 use Rattle.alg_proof.specs.Steps.{Theory}
 use Rattle.alg_cli.proofs.proving.close_by_norm_num.Goals as goal
 

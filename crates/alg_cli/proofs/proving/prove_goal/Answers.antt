@@ -1,6 +1,6 @@
 use Rattle.std.proofs.Common.{◌∙◌, ap, sym, subst}
 use Rattle.alg_build.specs.Book.{Book}
-use Rattle.alg_certificate_lines.specs.SpellingLaws.{HaveArguments}
+use Rattle.alg_certificate_lines.specs.Arguments.{HaveArguments}
 use Rattle.alg_proof.specs.Steps.{Theory}
 use Rattle.alg_cli.proofs.Judging.{of_statement}
 use Rattle.alg_cli.proofs.Spelled.{have_arguments}

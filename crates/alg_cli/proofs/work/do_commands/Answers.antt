@@ -5,12 +5,12 @@ use Rattle.alg_cli.proofs.work.do_commands.Goals as goal
 
 pub loop-command-preserved : goal.loop-command-preserved
 loop-command-preserved g c =
-    let kept = c.do_command.ensures.kept (rw c.in_ok-do_command.was (λ e. cc)) in
+    let kept = c.do_command.ensures.faults.kept (rw c.in_ok-do_command.was (λ e. cc)) in
     record {
       progress = at_next c.args.certified c.args.file.now.shared (told_seen c.args.file.now.arena) c.as_slice-commands.result.now c.loop-command.command-index c.command-item.result _ _ _ _ _ _ _ _ c.loop-command-test.true c.command-item.is
           c.loop-command.invariant.progress c.do_command.ensures.told c.in_ok-do_command.was (rw c.in_ok-do_command.was at c.do_command.ensures.tally);
       faults = kept ∙ c.loop-command.invariant.faults;
-      complaint_faults = c.do_command.ensures.complaint_faults ∙ c.loop-command.invariant.complaint_faults;
+      complaint_faults = c.do_command.ensures.faults.complaint_faults ∙ c.loop-command.invariant.complaint_faults;
       made = c.do_command.ensures.made ∙ c.loop-command.invariant.made;
     }
 

@@ -1,7 +1,7 @@
 use Rattle.std.proofs.Common.{rules, ◌≡◌, ℕ, ◌+◌, ◌-◌, ◌≤◌, ◌++◌, ◌∷◌, [], List, arith, sym, ap, ◌∙◌, length, reverse, take, drop, Some, length-drop, subst, refl}
 use Rattle.std.proofs.lemmas.List.{length-map}
 use Rattle.alg_expr.specs.declared.ids.ExprId.{ExprId}
-use Rattle.alg_expr.specs.Arena.{Extends-then}
+use Rattle.alg_expr.proofs.ArenaLaws.{Extends-then}
 use Rattle.alg_expr.specs.Ids.{tree_of, trees_at}
 use Rattle.alg_elaborate.specs.declared.building.Job.TheVariants as job
 use Rattle.alg_elaborate.specs.TypedTrees.{compound}

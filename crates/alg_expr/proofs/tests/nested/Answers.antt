@@ -1,4 +1,4 @@
-use Rattle.alg_expr.specs.Arena.{Extends-then, GrowsBy-Extends}
+use Rattle.alg_expr.proofs.ArenaLaws.{Extends-then, GrowsBy-Extends}
 use Rattle.alg_expr.proofs.tests.nested.Goals as goal
 
 pub loop-preserved : goal.loop-preserved

@@ -1,4 +1,4 @@
-use Rattle.alg_expr.specs.Arena.{GrowsBy-Extends}
+use Rattle.alg_expr.proofs.ArenaLaws.{GrowsBy-Extends}
 use Rattle.alg_kernel.proofs.TreeLemmas.{grow-two}
 use Rattle.alg_kernel.proofs.BridgeLemmas.{first-made}
 use Rattle.alg_kernel.proofs.bridges.literal_first.Goals as goal

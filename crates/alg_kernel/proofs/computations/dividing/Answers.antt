@@ -1,4 +1,4 @@
-use Rattle.alg_expr.specs.Arena.{Extends-then}
+use Rattle.alg_expr.proofs.ArenaLaws.{Extends-then}
 use Rattle.alg_kernel.proofs.computations.dividing.Goals as goal
 
 pub returns-clause-keeps : goal.returns-clause-keeps

@@ -1,5 +1,5 @@
 use Rattle.alg_terms.specs.declared.symbols.Sym.TheVariants as sym
-use Rattle.alg_expr.specs.Arena.{GrowsBy-Extends}
+use Rattle.alg_expr.proofs.ArenaLaws.{GrowsBy-Extends}
 use Rattle.alg_kernel.proofs.TreeLemmas.{grow-two}
 use Rattle.alg_kernel.proofs.BridgeLemmas.{negative-made}
 use Rattle.alg_kernel.proofs.computations.negative.Goals as goal

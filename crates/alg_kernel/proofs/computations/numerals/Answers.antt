@@ -1,6 +1,6 @@
 use Rattle.std.proofs.Common.{get_or}
 use Rattle.std.specs.Prelude.{pos}
-use Rattle.alg_expr.specs.Arena.{Extends-then}
+use Rattle.alg_expr.proofs.ArenaLaws.{Extends-then}
 use Rattle.alg_kernel.proofs.NumeralLemmas.{all-small, numerals-more, ids-more, cast_back}
 use Rattle.alg_kernel.proofs.computations.numerals.Goals as goal
 

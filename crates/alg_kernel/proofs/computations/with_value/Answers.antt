@@ -1,4 +1,4 @@
-use Rattle.alg_expr.specs.Arena.{Extends-then, GrowsBy-Extends}
+use Rattle.alg_expr.proofs.ArenaLaws.{Extends-then, GrowsBy-Extends}
 use Rattle.alg_kernel.proofs.NumeralLemmas.{cast_back}
 use Rattle.alg_kernel.proofs.ValueLemmas.{value-arity, value-sorts, value-equation}
 use Rattle.alg_kernel.proofs.computations.with_value.Goals as goal

@@ -1,4 +1,4 @@
-use Rattle.alg_expr.specs.Arena.{GrowsBy-Extends}
+use Rattle.alg_expr.proofs.ArenaLaws.{GrowsBy-Extends}
 use Rattle.alg_kernel.proofs.TreeLemmas.{grow-two, both-equation, sorts_at-extends}
 use Rattle.alg_kernel.proofs.congruence.both.Goals as goal
 

@@ -3,8 +3,8 @@ use Rattle.alg_kernel.proofs.SideLemmas.{lefts-in, rights-in}
 use Rattle.alg_kernel.proofs.CongLemmas.{cong-none, cong-refused, cong-shape, cong-good, left-fits, right-fits}
 use Rattle.alg_kernel.proofs.congruence.over_sides.Goals as goal
 
-pub value_of-requires : goal.value_of-requires
-value_of-requires c = rw c.requires.left_ids (lefts-in c.args.arena.now c.args.parts.now c.requires.here)
+pub value_sort-requires : goal.value_sort-requires
+value_sort-requires c = rw c.requires.left_ids (lefts-in c.args.arena.now c.args.parts.now c.requires.here)
 
 pub mark_for_head-requires : goal.mark_for_head-requires
 mark_for_head-requires c = rw c.requires.left_ids (lefts-in c.args.arena.now c.args.parts.now c.requires.here)

@@ -1,5 +1,5 @@
 use Rattle.std.proofs.Common.{◌-◌, arith}
-use Rattle.alg_expr.specs.Arena.{Extends-then}
+use Rattle.alg_expr.proofs.ArenaLaws.{Extends-then}
 use Rattle.alg_kernel.proofs.FillingLemmas.{filled-before}
 use Rattle.alg_kernel.proofs.filling.build_all.Goals as goal
 

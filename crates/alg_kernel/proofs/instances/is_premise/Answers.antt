@@ -1,6 +1,6 @@
 use Rattle.std.proofs.Common.{sym, ap₂, ◌∙◌}
 use Rattle.alg_expr.specs.Ids.{statement_of, trees_at}
-use Rattle.alg_expr.specs.Arena.{statement_of-extends}
+use Rattle.alg_expr.proofs.ArenaLaws.{statement_of-extends}
 use Rattle.alg_law.specs.LawRows.{pattern_of}
 use Rattle.alg_law.specs.Patterns.{fill_statement}
 use Rattle.alg_proof.specs.Causes.{statement_same}

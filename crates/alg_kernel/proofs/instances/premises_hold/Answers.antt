@@ -1,5 +1,5 @@
 use Rattle.std.proofs.Common.{◌∙◌, sym, arith, add-one}
-use Rattle.alg_expr.specs.Arena.{Extends-then}
+use Rattle.alg_expr.proofs.ArenaLaws.{Extends-then}
 use Rattle.alg_kernel.proofs.InstanceLemmas.{premise-step}
 use Rattle.alg_kernel.proofs.instances.premises_hold.Goals as goal
 

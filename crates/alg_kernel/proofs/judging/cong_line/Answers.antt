@@ -1,6 +1,6 @@
 use Rattle.std.specs.Prelude.{option_map}
 use Rattle.alg_expr.specs.Ids.{statement_of, statements_of}
-use Rattle.alg_proof.specs.Admissible.{fine_lines, sides_sorts}
+use Rattle.alg_proof.proofs.Admissible.{fine_lines, sides_sorts}
 use Rattle.alg_kernel.proofs.judging.cong_line.Goals as goal
 
 pub cong-requires-clause-sorts : goal.cong-requires-clause-sorts

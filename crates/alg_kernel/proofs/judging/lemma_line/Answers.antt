@@ -1,6 +1,6 @@
 use Rattle.std.specs.Prelude.{option_map}
 use Rattle.alg_expr.specs.Ids.{statement_of, statements_of}
-use Rattle.alg_proof.specs.Admissible.{fine_lines}
+use Rattle.alg_proof.proofs.Admissible.{fine_lines}
 use Rattle.alg_kernel.proofs.InstanceLemmas.{lines-sorted}
 use Rattle.alg_kernel.proofs.judging.lemma_line.Goals as goal
 

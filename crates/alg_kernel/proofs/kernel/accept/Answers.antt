@@ -1,6 +1,6 @@
 use Rattle.std.proofs.Common.{rules}
 use Rattle.alg_expr.specs.Ids.{statement_of}
-use Rattle.alg_expr.specs.Arena.{statement_of-extends}
+use Rattle.alg_expr.proofs.ArenaLaws.{statement_of-extends}
 use Rattle.alg_proof.specs.Lines.{steps_of}
 use Rattle.alg_kernel.proofs.KernelLemmas.{accept-bad, accept-all, accept-derivable}
 use Rattle.alg_kernel.proofs.ClaimLemmas.{accept-holds}

@@ -1,5 +1,5 @@
 use Rattle.std.proofs.Common.{rules, refl, ◌∙◌}
-use Rattle.alg_expr.specs.Arena.{Extends-then}
+use Rattle.alg_expr.proofs.ArenaLaws.{Extends-then}
 use Rattle.alg_proof.specs.Lines.{steps_of}
 use Rattle.alg_kernel.specs.State.{progress_of}
 use Rattle.alg_kernel.proofs.KernelLemmas.{feed_all-good, feed_all-bad}

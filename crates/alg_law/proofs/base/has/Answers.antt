@@ -1,4 +1,4 @@
-use Rattle.alg_law.specs.HavingLaws.{has_class-decides}
+use Rattle.alg_law.proofs.HavingLaws.{has_class-decides}
 use Rattle.alg_law.proofs.base.has.Goals as goal
 
 pub returns-clause-has : goal.returns-clause-has

@@ -1,4 +1,4 @@
-use Rattle.alg_law.specs.RowNames.{row_named-exact}
+use Rattle.alg_law.proofs.RowNameLaws.{row_named-exact}
 use Rattle.alg_law.proofs.law_table.law_named.Goals as goal
 
 pub returns-clause-exact : goal.returns-clause-exact

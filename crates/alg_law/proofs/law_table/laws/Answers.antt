@@ -2,7 +2,7 @@ use Rattle.std.specs.Prelude.{◌≡◌, [], ◌∷◌, All, map, refl}
 use Rattle.std.proofs.Common.{subst, sym}
 use Rattle.alg_law.specs.LawRows.{row_of}
 use Rattle.alg_law.specs.Laws.{law_groups}
-use Rattle.alg_law.specs.NoFalseLaw.{law_groups-true}
+use Rattle.alg_law.proofs.NoFalseLaw.{law_groups-true}
 use Rattle.alg_law.specs.TrueRows.{IsTrueRow}
 use Rattle.alg_law.proofs.law_table.laws.Goals as goal
 

@@ -3,6 +3,7 @@ use Rattle.std.proofs.lemmas.List.{length-map}
 use Rattle.alg_proof.specs.LemmaRows.{rows_of}
 use Rattle.alg_lemma.specs.Lemmas.{lemma_groups, lemma_table}
 use Rattle.alg_lemma.proofs.Adding.{none_added, added_group, next_group, all_added}
+use Rattle.alg_lemma.proofs.Named.{holds}
 use Rattle.alg_lemma.proofs.tables.library.Goals as goal
 
 pub loop-group-init : goal.loop-group-init
@@ -25,8 +26,14 @@ add_all-requires c =
     let below : c.loop-group.group-index < length c.lemmas-group-items.result = omega (arith, count) in
     next_group (λ g. g.now) lemma_table (rows_of c.loop-group.table) c.lemmas-group-items.result c.loop-group.group-index _ below c.loop-group.invariant
 
-pub returns : goal.returns
+pub returns-clause-table : goal.returns-clause-table
 unfolding lemma_groups
-returns c =
+returns-clause-table c =
     let count : length c.lemmas-group-items.result ≡ length lemma_groups = sym (length-map c.lemmas-group-items.result _) ∙ ap length c.lemmas-group-items.ensures.rows in
     all_added (λ g. g.now) lemma_table (rows_of c.loop-group.table) c.lemmas-group-items.result c.loop-group.group-index (omega (arith, count)) c.loop-group.invariant
+
+pub returns-clause-holds : goal.returns-clause-holds
+unfolding lemma_groups
+returns-clause-holds c =
+    let count : length c.lemmas-group-items.result ≡ length lemma_groups = sym (length-map c.lemmas-group-items.result _) ∙ ap length c.lemmas-group-items.ensures.rows in
+    holds (rows_of c.loop-group.table) (all_added (λ g. g.now) lemma_table (rows_of c.loop-group.table) c.lemmas-group-items.result c.loop-group.group-index (omega (arith, count)) c.loop-group.invariant)

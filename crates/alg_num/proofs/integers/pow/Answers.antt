@@ -1,7 +1,7 @@
 use Rattle.std.proofs.Common.{◌≡◌, ◌<◌, pos, negsuc, arith, ap, sym, lit≤}
 use Rattle.std.specs.Prelude.{unsigned_abs}
 use Rattle.std.proofs.lemmas.Int.{ints}
-use Rattle.alg_num.specs.PowerLaws.{int_pow-zero}
+use Rattle.alg_num.proofs.PowerLaws.{int_pow-zero}
 use Rattle.alg_num.proofs.Powers.{is_small, minus-even, minus-odd, large, zero-pow, one-pow, power_past}
 use Rattle.alg_num.proofs.integers.pow.Goals as goal
 use Rattle.alg_num.proofs.integers.pow.Goals.{then-n-eq0-via-then-n-eq0, then-n-eq0-via-else-n-eq0+then-a-eq1}

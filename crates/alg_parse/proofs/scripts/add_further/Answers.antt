@@ -1,6 +1,6 @@
 use Rattle.std.proofs.Common.{◌≡◌, ℕ, ◌+◌, suc, arith, ◌∷◌, sym, ap, ◌∙◌, subst, drop}
 use Rattle.std.proofs.Math.Seq.{drop-cons}
-use Rattle.alg_expr.specs.Arena.{Extends-then}
+use Rattle.alg_expr.proofs.ArenaLaws.{Extends-then}
 use Rattle.alg_parse.proofs.CallLaws.{FurtherCalled, further_on}
 use Rattle.alg_parse.proofs.scripts.add_further.Goals as goal
 

@@ -1,5 +1,5 @@
 use Rattle.std.proofs.Common.{rules, arith, sym, ◌∙◌, refl}
-use Rattle.alg_certificate.specs.ComingLaws.{at_end, at_fault, bad_line, good_line}
+use Rattle.alg_certificate.proofs.ComingLaws.{at_end, at_fault, bad_line, good_line}
 use Rattle.alg_certificate.proofs.LineLaws.{line_sound}
 use Rattle.alg_certificate.specs.Reader.{seen_line}
 use Rattle.alg_certificate.proofs.reader.CertReader.next.Goals as goal

@@ -6,7 +6,8 @@ use Rattle.alg_terms.specs.Tree.{Tree}
 use Rattle.alg_expr.specs.declared.importing.Copied.{Copied}
 use Rattle.alg_expr.specs.declared.ids.ExprId.{ExprId}
 use Rattle.alg_expr.specs.Ids.{tree_of, IsIn}
-use Rattle.alg_expr.specs.Arena.{Extends-then, Extends, Imports}
+use Rattle.alg_expr.proofs.ArenaLaws.{Extends-then}
+use Rattle.alg_expr.specs.Arena.{Extends, Imports}
 use Rattle.alg_expr.specs.Copies.{Copies, AreCopies, next_of}
 use Rattle.alg_expr.proofs.Copying.{Imports-done, AreCopies-insert, copies_fit, next_in, smaller-pop, smaller-insert}
 use Rattle.alg_expr.proofs.arena.Arena.copy_in.Goals as goal

@@ -1,8 +1,7 @@
 use Rattle.alg_names.specs.declared.meanings.Meaning.{Meaning}
-use Rattle.std.proofs.Common.{rules, ◌≡◌, ℕ, List, sym, ap, ◌∙◌, map, take}
+use Rattle.std.proofs.Common.{ℕ, List, sym, ap, ◌∙◌, map, take}
 use Rattle.std.proofs.lemmas.List.{take-map}
 use Rattle.std.specs.String.{string_bytes}
-use Rattle.alg_names.proofs.Lookups.{found_looked_up}
 use Rattle.alg_names.proofs.names.Names.leave.Goals as goal
 
 pub returns : goal.returns

@@ -1,4 +1,4 @@
-use Rattle.std.proofs.Common.{rules, ◌≡◌, sym, ap, ◌∙◌}
+use Rattle.std.proofs.Common.{sym, ap, ◌∙◌}
 use Rattle.std.specs.String.{string_bytes}
 use Rattle.alg_names.specs.Found.{found}
 use Rattle.alg_names.proofs.Lookups.{found_looked_up}

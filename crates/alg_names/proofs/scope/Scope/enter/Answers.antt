@@ -1,4 +1,4 @@
-use Rattle.std.proofs.Common.{rules, ◌≡◌, sym, subst}
+use Rattle.std.proofs.Common.{◌≡◌, sym, subst}
 use Rattle.std.specs.Prelude.{OnOk}
 use Rattle.alg_law.specs.Declarations.{declaration_of}
 use Rattle.alg_law.specs.declared.declarations.Declared.{Declared}

@@ -1,4 +1,3 @@
-use Rattle.std.proofs.Common.{rules}
 use Rattle.alg_names.proofs.Leaving.{left}
 use Rattle.alg_names.proofs.scope.Scope.leave.Goals as goal
 

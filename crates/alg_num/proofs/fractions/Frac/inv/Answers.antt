@@ -3,7 +3,7 @@ use Rattle.std.specs.Int.{w128}
 use Rattle.std.specs.Prelude.{unsigned_abs, int_lt as lt_z}
 use Rattle.std.proofs.lemmas.Int.{to_z-of_z}
 use Rattle.alg_num.specs.Inverse.{IsInverse}
-use Rattle.alg_num.specs.ReducedLaws.{signed, unsigned_abs-signed}
+use Rattle.alg_num.proofs.ReducedLaws.{signed, unsigned_abs-signed}
 use Rattle.alg_num.proofs.Reductions.{cast_back, inversion}
 use Rattle.alg_num.proofs.fractions.Frac.inv.Goals as goal
 

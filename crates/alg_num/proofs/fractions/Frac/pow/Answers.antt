@@ -1,5 +1,5 @@
 use Rattle.std.proofs.Common.{ℕ, ◌<◌, sym, subst}
-use Rattle.alg_num.specs.PowerLaws.{positive_power}
+use Rattle.alg_num.proofs.PowerLaws.{positive_power}
 use Rattle.alg_num.proofs.fractions.Frac.pow.Goals as goal
 
 pub reduced-requires-clause-positive : goal.reduced-requires-clause-positive

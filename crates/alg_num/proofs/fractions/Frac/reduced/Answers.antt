@@ -2,9 +2,9 @@ use Rattle.std.proofs.Common.{◌≡◌, ◌/◌, ℤ, pos, arith, ap, sym, ◌�
 use Rattle.std.specs.Int.{w128}
 use Rattle.std.specs.Prelude.{unsigned_abs, int_lt as lt_z}
 use Rattle.std.proofs.lemmas.Int.{to_z-of_z}
-use Rattle.alg_num.specs.CoprimeLaws.{gcd_positive}
+use Rattle.alg_num.proofs.CoprimeLaws.{gcd_positive}
 use Rattle.alg_num.specs.LowestTerms.{Reduces}
-use Rattle.alg_num.specs.ReducedLaws.{reduction, signed, unsigned_abs-signed}
+use Rattle.alg_num.proofs.ReducedLaws.{reduction, signed, unsigned_abs-signed}
 use Rattle.alg_num.proofs.fractions.Frac.reduced.Goals as goal
 
 pub nonzero_div-size : goal.nonzero_div-size

@@ -1,0 +1,13 @@
+pub mod RingLaws
+pub mod Sizes
+pub mod Terms
+pub mod Normal
+pub mod Unique
+pub mod Products
+pub mod Weights
+pub mod Renaming
+pub mod Monomials
+pub mod TreeOrder
+pub mod Exponents
+pub mod Convolving
+pub mod OverAtoms

@@ -1,0 +1,9 @@
+pub mod Coefficients
+pub mod Size
+pub mod Sum
+pub mod Monomial
+pub mod Exponents
+pub mod Ratio
+pub mod RatioRing
+pub mod RatioSizes
+pub mod Rational
