@@ -4,7 +4,18 @@ use Rattle.std.specs.Prelude.{Result, IfOk, IsTrue, ◌↔◌}
 use Rattle.alg_terms.specs.Tree.{Statement}
 use Rattle.alg_cli.specs.declared.proofs.Proof.{Proof}
 use Rattle.alg_law.specs.declared.combo.Combo.{Combo}
+use Rattle.alg_law.specs.Declarations.{Declaration}
+use Rattle.alg_law.specs.WellSorted.{IsStatement}
+use Rattle.alg_expr.specs.declared.ids.Stmt.{Stmt}
+use Rattle.alg_expr.specs.Ids.{statement_of}
+use Rattle.alg_build.specs.declared.outcome.Back.{Back}
+use Rattle.alg_build.specs.declared.outcome.Outcome.{Outcome}
+use Rattle.alg_build.specs.declared.outcome.Outcome.TheVariants.{Left}
+use Rattle.alg_build.specs.declared.outcome.TacFault.{TacFault}
+use Rattle.alg_build.specs.Answer.{Gives}
+use Rattle.alg_build.specs.Book.{Book}
 use Rattle.alg_normnum.specs.Values.{norm_num_answer}
+use Rattle.alg_normnum.proofs.Steps.{leaves-none}
 use Rattle.alg_binders.specs.declared.procedures.Procedure.{Procedure}
 use Rattle.alg_binders.specs.declared.procedures.Procedure.TheVariants.{NormNum, Ring, Ring1, RingNf, Abel, Abel1, AbelNf, Group, Positivity, FieldSimp}
 use Rattle.alg_parse.specs.declared.procedures.Proc.{Proc}
@@ -66,3 +77,11 @@ closed_then s script first more r proof v is ok closed h =
 pub of_statement : {E : Type 0} (script : List Proc) (s t : Statement) (r : Result Fate E) → s ≡ t → IfOk r (λ f. verdict_in f ≡ verdict_of s (calls_seen script))
     → IfOk r (λ f. verdict_in f ≡ verdict_of t (calls_seen script))
 of_statement script s t r e h = subst (λ u. IfOk r (λ f. verdict_in f ≡ verdict_of u (calls_seen script))) e h
+
+-- norm_num leaves no goal
+pub never_left : (b : Book) (r : Result Outcome TacFault) (o : Outcome) (g : Stmt) (k : Back) (s : Statement) → r ≡ Ok o → o ≡ Left g k → Gives b r (norm_num_answer s) → ⊥
+never_left b r o g k s e f h = leaves-none s (statement_of b.trees g) (rw (e, f) at h)
+
+-- a goal stays well sorted where it is copied
+pub still_sorted : (ds es : List Declaration) (s t : Statement) → ds ≡ es → s ≡ t → IsStatement es t → IsStatement ds s
+still_sorted ds es s t p q h = subst (λ (x : List Declaration). IsStatement x s) (sym p) (subst (λ (y : Statement). IsStatement es y) (sym q) h)
