@@ -4,7 +4,6 @@ use Rattle.alg_terms.specs.Tree.{Statement, node_count}
 use Rattle.alg_expr.specs.declared.ids.Stmt.{Stmt}
 use Rattle.alg_expr.specs.Ids.{statement_of}
 use Rattle.alg_expr.proofs.ArenaLaws.{IsIn-extends, tree_of-extends}
-use Rattle.alg_law.specs.WellSorted.{IsStatement}
 use Rattle.alg_build.specs.Answer.{Answer, Fails, FailsBy, IsLeft, Leads}
 use Rattle.alg_build.specs.Backs.{LeadsBack}
 use Rattle.alg_build.specs.Book.{Book, Concludes, Grows}

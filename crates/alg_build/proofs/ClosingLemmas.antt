@@ -14,7 +14,7 @@ use Rattle.alg_build.specs.Book.{Book, Concludes, Proves, Grows, Adds, IsThere, 
 use Rattle.alg_build.specs.declared.rewriting.Rewriting.{Rewriting}
 use Rattle.alg_build.specs.Rewriting.{Turns, Stands, Meet, Relates, Remains}
 use Rattle.alg_build.proofs.Lines.{adds-concludes, grows-proves, grows-then}
-use Rattle.alg_build.proofs.Leading.{concludes-grows, concludes-there, concludes-fact, replaced_there, replaced_left, replaced_right, replaced_left_same, replaced_right_same, replaced_is}
+use Rattle.alg_build.proofs.Leading.{concludes-grows, replaced_there, replaced_left, replaced_right, replaced_left_same, replaced_right_same, replaced_is}
 use Rattle.alg_build.proofs.Rewritings.{turns-same, grows-stands, grows-turns}
 
 -- an equation of ids is the goal

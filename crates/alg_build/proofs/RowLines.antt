@@ -1,12 +1,12 @@
 -- The lines of rows are good, and conclude what the rows do.
-use Rattle.std.proofs.Common.{◌≡◌, ℕ, List, refl, Some, true}
+use Rattle.std.proofs.Common.{◌≡◌, ℕ, List, refl, Some}
 use Rattle.alg_terms.specs.declared.sorts.Sort.{Sort}
 use Rattle.alg_terms.specs.Tree.{Tree, Statement, equal}
 use Rattle.alg_law.specs.Laws.{law_table, row_named}
 use Rattle.alg_law.specs.Rows.{Row, MayFill}
 use Rattle.alg_proof.specs.Causes.{statements_at}
 use Rattle.alg_proof.specs.Steps.{Step, Law, Lemma}
-use Rattle.alg_build.specs.Book.{Book, Adds, Concludes, Proves, IsThere}
+use Rattle.alg_build.specs.Book.{Book, Adds, Proves, IsThere}
 use Rattle.alg_proof.specs.Citing.{premises_of, conclusion_of}
 use Rattle.alg_build.specs.Good.{IsGood, MayConclude}
 use Rattle.alg_proof.proofs.Forward.{law_leads, lemma_leads}

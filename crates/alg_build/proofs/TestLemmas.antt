@@ -1,5 +1,5 @@
 -- What the calls of the tests require.
-use Rattle.std.proofs.Common.{◌≡◌, ℕ, ◌∷◌, [], refl}
+use Rattle.std.proofs.Common.{ℕ, ◌∷◌, [], refl}
 use Rattle.alg_terms.specs.Tree.{Tree, Statement, equal}
 use Rattle.alg_lemma.proofs.Named.{add_tail-named}
 use Rattle.alg_build.specs.declared.outcome.Back.TheVariants as back

@@ -21,7 +21,11 @@ fn with_digit(number: u128, digit: u8) -> Option<u128>
         return None;
     }
     let more = number * 10 + (digit - 48) as u128;
-    if more <= GREATEST_LITERAL { Some(more) } else { None }
+    if more <= GREATEST_LITERAL {
+        Some(more)
+    } else {
+        None
+    }
 }
 
 // Goes on with a number.

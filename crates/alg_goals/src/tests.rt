@@ -4,8 +4,7 @@ use std::alloc::Global;
 use std::process::Abort;
 use std::test::Fail;
 
-const DECLARED: &'static str =
-    "variable (a b : ℚ) (i j : ℤ) (m n : ℕ) (f : ℚ → ℚ) (g : ℕ → ℕ → ℚ)";
+const DECLARED: &'static str = "variable (a b : ℚ) (i j : ℤ) (m n : ℕ) (f : ℚ → ℚ) (g : ℕ → ℕ → ℚ)";
 
 // Each is read, shown as it stands beside it, and that is read and shown as it is.
 const TABLE: [(&'static str, &'static str); 34] = [

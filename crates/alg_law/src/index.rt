@@ -61,10 +61,7 @@ fn make_room(first: &mut Vec<u32>, sort: u32) -> Result<(), Memory>
 }
 
 /// Makes the table long enough for an instance.
-pub fn make_room_for(
-    first: &mut Vec<u32>,
-    instance: Option<(u32, Class)>,
-) -> Result<(), Memory>
+pub fn make_room_for(first: &mut Vec<u32>, instance: Option<(u32, Class)>) -> Result<(), Memory>
     ensures room { OnOk result (HasRoom first.new.items instance) }
     ensures same { IsPadded first.old.items first.new.items }
 {

@@ -34,8 +34,8 @@ by_one n e = rw e refl
 
 pub lowest : (a : Ratio) → IsInLowestTerms (fraction a)
 lowest a = record {
-    positive = omega arith;
-    coprime = subst (λ g. IsGcd (unsigned_abs a.top) (suc a.under) g) (one_by _ a.coprime) (IsGcd-greatest_divisor (unsigned_abs a.top) (suc a.under));
+  positive = omega arith;
+  coprime = subst (λ g. IsGcd (unsigned_abs a.top) (suc a.under) g) (one_by _ a.coprime) (IsGcd-greatest_divisor (unsigned_abs a.top) (suc a.under));
 }
 
 pub coprime_of : (n : ℤ) (d : ℕ) → IsInLowestTerms (record { numerator = n; denominator = d }) → are_coprime n d ≡ true
@@ -62,9 +62,9 @@ ratio_of p h =
     let l = (Reduces-reduced p h).lowest in
     let e : suc ((reduced p).denominator - 1) ≡ (reduced p).denominator = omega (arith, l.positive) in
     record {
-        top = (reduced p).numerator;
-        under = (reduced p).denominator - 1;
-        coprime = ap (λ d. are_coprime (reduced p).numerator d) e ∙ coprime_of (reduced p).numerator (reduced p).denominator l;
+      top = (reduced p).numerator;
+      under = (reduced p).denominator - 1;
+      coprime = ap (λ d. are_coprime (reduced p).numerator d) e ∙ coprime_of (reduced p).numerator (reduced p).denominator l;
     }
 
 pub value : (p : Fraction) (h : 0 < p.denominator) → IsSameValue (fraction (ratio_of p h)) p
@@ -125,13 +125,13 @@ product_positive_of a b c = omega arith
 pub times_plus : (a b c : Ratio) → times a (plus b c) ≡ plus (times a b) (times a c)
 times_plus a b c =
     let left =
-        IsSameValue-trans (fraction (times a (plus b c))) (product_of (fraction a) (fraction (plus b c))) (product_of (fraction a) (sum_of (fraction b) (fraction c))) (product_positive a.under (plus b c).under)
-        (times-value a (plus b c))
-        (product_of-same (fraction a) (fraction a) (fraction (plus b c)) (sum_of (fraction b) (fraction c)) refl (plus-value b c)) in
+    IsSameValue-trans (fraction (times a (plus b c))) (product_of (fraction a) (fraction (plus b c))) (product_of (fraction a) (sum_of (fraction b) (fraction c))) (product_positive a.under (plus b c).under)
+    (times-value a (plus b c))
+    (product_of-same (fraction a) (fraction a) (fraction (plus b c)) (sum_of (fraction b) (fraction c)) refl (plus-value b c)) in
     let right =
-        IsSameValue-trans (fraction (plus (times a b) (times a c))) (sum_of (fraction (times a b)) (fraction (times a c))) (sum_of (product_of (fraction a) (fraction b)) (product_of (fraction a) (fraction c))) (product_positive (times a b).under (times a c).under)
-        (plus-value (times a b) (times a c))
-        (sum_of-same (fraction (times a b)) (product_of (fraction a) (fraction b)) (fraction (times a c)) (product_of (fraction a) (fraction c)) (times-value a b) (times-value a c)) in
+    IsSameValue-trans (fraction (plus (times a b) (times a c))) (sum_of (fraction (times a b)) (fraction (times a c))) (sum_of (product_of (fraction a) (fraction b)) (product_of (fraction a) (fraction c))) (product_positive (times a b).under (times a c).under)
+    (plus-value (times a b) (times a c))
+    (sum_of-same (fraction (times a b)) (product_of (fraction a) (fraction b)) (fraction (times a c)) (product_of (fraction a) (fraction c)) (times-value a b) (times-value a c)) in
     ratio_equal (times a (plus b c)) (plus (times a b) (times a c))
     (IsSameValue-trans (fraction (times a (plus b c))) (product_of (fraction a) (sum_of (fraction b) (fraction c))) (fraction (plus (times a b) (times a c))) (three_positive a.under b.under c.under) left
     (IsSameValue-trans (product_of (fraction a) (sum_of (fraction b) (fraction c))) (sum_of (product_of (fraction a) (fraction b)) (product_of (fraction a) (fraction c))) (fraction (plus (times a b) (times a c))) (product_positive_of a.under b.under c.under)

@@ -5,7 +5,7 @@ use alg_cli::{Extensions, Host, RealHost, run};
 use std::alloc::{AllocError, Global};
 use std::process::ExitCode;
 
-const RUNS: [&'static str; 15] = [
+const RUNS: [&'static str; 18] = [
     "algebra prove notation.alg --cert written.cert",
     "algebra check notation.alg written.cert",
     "algebra check notation.alg notation.cert",
@@ -21,6 +21,9 @@ const RUNS: [&'static str; 15] = [
     "algebra prove not_utf8.alg",
     "algebra prove missing.alg",
     "algebra demo 1",
+    "algebra prove norm_num.alg",
+    "algebra prove tactics.alg",
+    "algebra prove reading.alg",
 ];
 
 /// The status where memory runs out before a run.

@@ -4,8 +4,7 @@ use std::test::Fail;
 
 const DEPTH: usize = 1_000_000;
 
-const SAID: &str =
-    "example@1: refused: last line is not the goal\naccepted 0, refused 1\n";
+const SAID: &str = "example@1: refused: last line is not the goal\naccepted 0, refused 1\n";
 
 #[test]
 fn a_deep_tree_is_read(rt: HostRuntime) -> Result<(), Fail> {
