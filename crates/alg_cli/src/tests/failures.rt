@@ -7,10 +7,9 @@ const FILE: &str =
 
 const NOTHING: &str = "algebra-cert 1\n";
 
-const ONE: &str = "algebra-cert 1\ngoal 1\nrefl #N:1\nsymm 1\ntrans 1 2\nend\n";
+const ONE: &str = "algebra-cert 1\ngoal 1\nrefl #N:1\nend\n";
 
-const BOTH: &str =
-    "algebra-cert 1\ngoal 1\nrefl #N:1\nsymm 1\ntrans 1 2\nend\ngoal 3\nrefl #N:2\nrefl #N:1\ncong add 1 2\nadd N 2 1\ntrans 3 4\nrefl #N:3\nsymm 6\ntrans 5 7\nend\n";
+const BOTH: &str = "algebra-cert 1\ngoal 1\nrefl #N:1\nend\ngoal 3\nadd N 2 1\nend\n";
 
 #[test]
 fn stops_where_a_call_of_a_certified_run_fails(rt: HostRuntime) -> Result<(), Fail> {
