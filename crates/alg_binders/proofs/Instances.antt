@@ -1,13 +1,11 @@
 -- A class of a type variable.
-use Rattle.std.proofs.Common.{◌≡◌, ℕ, refl, sym, ap, ◌∙◌, List, [], ◌∷◌, ◌++◌, Option, Some, None}
+use Rattle.std.proofs.Common.{◌≡◌, ℕ, sym, ap, ◌∙◌, List, [], ◌∷◌, ◌++◌, Some, None}
 use Rattle.std.specs.Prelude.{unwrap_or}
-use Rattle.alg_terms.specs.declared.sorts.Sort.{Sort}
 use Rattle.alg_terms.specs.declared.sorts.Sort.TheVariants.{Nat, Decl}
 use Rattle.alg_law.specs.declared.classes.Class.{Class}
 use Rattle.alg_law.specs.declared.classes.Class.TheVariants.{Semigroup}
 use Rattle.alg_law.specs.Declarations.{Declaration, Instance}
 use Rattle.alg_syntax.specs.Written.{Written}
-use Rattle.alg_syntax.specs.declared.binders.Binder.{Binder}
 use Rattle.alg_syntax.specs.declared.binders.Binder.TheVariants as binder
 use Rattle.alg_names.specs.declared.scope.Scope.{Scope}
 use Rattle.alg_names.specs.Entering.{enter}

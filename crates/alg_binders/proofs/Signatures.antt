@@ -1,9 +1,9 @@
 -- What is declared of a name.
-use Rattle.std.proofs.Common.{◌≡◌, ℕ, zero, suc, refl, sym, ap, ◌∙◌, subst, arith, List, [], ◌∷◌, ◌++◌, length, map, false, Option, None}
+use Rattle.std.proofs.Common.{◌≡◌, ℕ, refl, sym, subst, arith, List, [], ◌∷◌, ◌++◌, length, false, None}
 use Rattle.std.proofs.lemmas.List.{map-append}
 use Rattle.alg_terms.specs.declared.sorts.Sort.{Sort}
 use Rattle.alg_terms.specs.Tree.{Tree}
-use Rattle.alg_law.specs.Declarations.{Declaration, Carrier, Variable, Function, Hypothesis}
+use Rattle.alg_law.specs.Declarations.{Declaration, Variable, Function}
 use Rattle.alg_names.specs.declared.meanings.Meaning.{Meaning}
 use Rattle.alg_names.specs.declared.scope.Scope.{Scope}
 use Rattle.alg_names.specs.Entering.{enter, IsFresh}

@@ -1,8 +1,9 @@
 -- Binder after binder.
-use Rattle.std.proofs.Common.{◌≡◌, ℕ, refl, sym, ap, ◌∙◌, subst, List, [], ◌∷◌, ◌++◌, map, Option, Some, None, append_assoc, append-nil}
+use Rattle.std.proofs.Common.{◌≡◌, ℕ, refl, sym, ap, ◌∙◌, List, [], ◌∷◌, ◌++◌, map, Some, append_assoc, append-nil}
 use Rattle.alg_law.specs.Declarations.{Declaration}
 use Rattle.alg_names.specs.declared.scope.Scope.{Scope}
-use Rattle.alg_names.specs.Entering.{entered, entered-joined}
+use Rattle.alg_names.specs.Entering.{entered}
+use Rattle.alg_names.proofs.EnteringLemmas.{entered-joined}
 use Rattle.alg_syntax.specs.Written.{Written}
 use Rattle.alg_syntax.specs.declared.binders.Binder.{Binder}
 use Rattle.alg_syntax.specs.declared.binders.Typed.{Typed}

@@ -1,5 +1,5 @@
 -- The faults of a command that is read, and what it declares.
-use Rattle.std.specs.Prelude.{◌≡◌, ℕ, List, [], ◌∷◌, ◌++◌, true, false, not, is_some}
+use Rattle.std.specs.Prelude.{ℕ, List, [], ◌∷◌, ◌++◌, true, not, is_some}
 use Rattle.alg_terms.specs.declared.sorts.Sort.{Sort}
 use Rattle.alg_law.specs.Declarations.{Declaration}
 use Rattle.alg_syntax.specs.declared.scripts.Step.{Step}

@@ -1,5 +1,5 @@
 -- What a binder says of each of its names.
-use Rattle.std.specs.Prelude.{◌≡◌, ℕ, List, map, ⊤}
+use Rattle.std.specs.Prelude.{ℕ, List, ⊤}
 use Rattle.alg_terms.specs.Tree.{Tree}
 use Rattle.alg_expr.specs.Ids.{statement_of, IsStatementIn}
 use Rattle.alg_law.specs.Declarations.{Declaration}

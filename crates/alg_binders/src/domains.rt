@@ -1,4 +1,4 @@
-ghost use Rattle.std.specs.Prelude.{◌≡◌, ◌++◌, ℕ, List, [], length, unwrap_or, option_map, Some, IfOk, IfErr};
+ghost use Rattle.std.specs.Prelude.{◌≡◌, ◌++◌, ℕ, List, [], unwrap_or, option_map, Some, IfOk, IfErr};
 ghost use Rattle.alg_terms.specs.declared.sorts.Sort.TheVariants as sorts;
 ghost use Rattle.alg_expr.specs.Arena.{Extends};
 ghost use Rattle.alg_elaborate.specs.declared.causes.Cause as causes;

@@ -10,7 +10,7 @@ ghost use Rattle.alg_binders.specs.CommandFaults.{step_faults, further_faults, s
 
 use crate::binders::add_binders;
 use crate::procedures::procedure_named;
-use alg_elaborate::{Cause, elaborate_statement, first_fault, mark_proofs};
+use alg_elaborate::{Cause, elaborate_statement, find_proofs, first_fault};
 use alg_expr::{Arena, Items, Memory, Sort, Stmt};
 use alg_law::Declared;
 use alg_names::Scope;
@@ -25,20 +25,20 @@ pub struct Stated {
     pub stmt: Stmt,
 }
 
-// The first fault of a procedure on a goal of the sort `kind`.
+// The first fault of a procedure on a goal of the given sort.
 fn step_fault<'a>(
     alloc: Global,
     scope: &Scope,
-    kind: Sort,
+    sort: Sort,
     step: &Step<'a>,
 ) -> Result<Option<Cause>, Memory>
-    ensures { IfOk result (λ o. o ≡ first (step_faults scope.now kind step.now)) }
+    ensures { IfOk result (λ o. o ≡ first (step_faults scope.now sort step.now)) }
 {
     match step {
         Step::Combination(_, proof) => {
             let (root, nodes) = proof.nodes();
-            let proofs = mark_proofs(alloc, nodes, scope)?;
-            first_fault(alloc, nodes, scope, proofs.as_slice(), true, kind, root)
+            let proofs = find_proofs(alloc, nodes, scope)?;
+            first_fault(alloc, nodes, scope, proofs.as_slice(), true, sort, root)
         }
         Step::Procedure(name) => {
             if procedure_named(name.text()).is_some() {
@@ -54,13 +54,13 @@ fn step_fault<'a>(
 fn further_fault<'a>(
     alloc: Global,
     scope: &Scope,
-    kind: Sort,
+    sort: Sort,
     further: &[Further<'a>],
 ) -> Result<Option<Cause>, Memory>
-    ensures { IfOk result (λ o. o ≡ first (further_faults scope.now kind further.now)) }
+    ensures { IfOk result (λ o. o ≡ first (further_faults scope.now sort further.now)) }
 {
     for step in further {
-        if let Some(cause) = step_fault(alloc, scope, kind, &step.step)? {
+        if let Some(cause) = step_fault(alloc, scope, sort, &step.step)? {
             return Ok(Some(cause));
         }
     }
@@ -71,15 +71,15 @@ fn further_fault<'a>(
 fn script_fault<'a>(
     alloc: Global,
     scope: &Scope,
-    kind: Sort,
+    sort: Sort,
     script: &Script<'a>,
 ) -> Result<Option<Cause>, Memory>
-    ensures { IfOk result (λ o. o ≡ first (script_faults scope.now kind script.now)) }
+    ensures { IfOk result (λ o. o ≡ first (script_faults scope.now sort script.now)) }
 {
-    if let Some(cause) = step_fault(alloc, scope, kind, &script.first)? {
+    if let Some(cause) = step_fault(alloc, scope, sort, &script.first)? {
         return Ok(Some(cause));
     }
-    further_fault(alloc, scope, kind, script.further.as_slice())
+    further_fault(alloc, scope, sort, script.further.as_slice())
 }
 
 // The statement of a goal, or the first fault of it and of the procedures.
@@ -144,8 +144,8 @@ pub fn elaborate_goal<'a>(
     ensures faulty { IfOk result (λ r. IfErr r (λ cause. first (goal_faults scope.old goal.now) ≡ Some cause)) }
     ensures back { IfOk result (λ _. scope.new ≡ scope.old) }
 {
-    let mark = scope.mark();
+    let checkpoint = scope.checkpoint();
     let stated = enter_goal(alloc, arena, scope, goal)?;
-    scope.leave(mark);
+    scope.leave(checkpoint);
     Ok(stated)
 }

@@ -8,6 +8,7 @@ use Rattle.std.proofs.lemmas.Grind.{common_steps}
 use Rattle.alg_terms.specs.Tree.{Tree, Statement}
 use Rattle.alg_expr.specs.declared.ids.ExprId.{ExprId}
 use Rattle.alg_expr.specs.declared.ids.Stmt.{Stmt}
+use Rattle.alg_expr.specs.declared.memory.Memory.{Memory}
 use Rattle.alg_expr.specs.Ids.{tree_of, trees_at, IsIn, statement_of, statements_of, IsStatementIn}
 use Rattle.alg_expr.specs.Arena.{Extends, GrowsBy, Imports}
 use Rattle.alg_expr.proofs.ArenaLaws.{Extends-self, GrowsBy-Extends, IsIn-extends, tree_of-extends, statement_of-extends, statements_of-extends, IsStatementIn-extends}
@@ -19,7 +20,7 @@ use Rattle.alg_proof.specs.declared.lemma_rows.LemmaRow.{LemmaRow}
 use Rattle.alg_proof.specs.LemmaRows.{rows_of}
 use Rattle.alg_proof.specs.Following.{IsAdmissible}
 use Rattle.alg_proof.specs.Admissible.{IsTheory, IsFine, AllFine}
-use Rattle.alg_proof.proofs.Admissible.{fine_lines}
+use Rattle.alg_proof.proofs.Admissible.{fine_lines, conclude-fine}
 use Rattle.alg_law.specs.Following.{IsWellFormed}
 use Rattle.alg_law.specs.Lawful.{IsLawful}
 use Rattle.alg_law.specs.WellSorted.{IsStatement}
@@ -27,7 +28,7 @@ use Rattle.alg_proof.specs.Steps.{Theory, Step, Refl, Symm, Trans, Cong, Subst, 
 use Rattle.alg_terms.specs.declared.causes.BadCause.TheVariants as cause
 use Rattle.alg_proof.specs.Causes.{line_at, or_cause}
 use Rattle.alg_build.specs.Book.{Book, KeepsLines, Makes, Rests, IsThere, fact, stated}
-use Rattle.alg_build.specs.Good.{AreGood, none, one_more}
+use Rattle.alg_build.specs.Good.{AreGood, MayConclude, none, one_more}
 use Rattle.alg_build.proofs.Accepting.{good_fine}
 use Rattle.alg_build.specs.Inside.{Held, theory_of, book_of, IsSound}
 
@@ -226,6 +227,17 @@ given_is_good h k = given-good h.declarations h.trees h.given k.given_in k.theor
 
 pub all_fine : (h : Held) → IsSound h → AllFine h.declarations (option_map (statement_of h.trees) h.given) (statements_of h.trees h.done)
 all_fine h k = good_fine (theory_of h) (steps_of h.trees h.lines) (statements_of h.trees h.done) k.theory k.good
+
+-- what a good line concludes is well sorted
+pub leads_sorted : (h : Held) (old : Book) (l : Step) (f : List Tree → Statement) → book_of h ≡ old → IsSound h → MayConclude old l (f old.trees) → (ds : List Declaration) × IsStatement ds (f h.trees)
+leads_sorted h old l f same k e = (
+  h.declarations,
+  (conclude-fine (theory_of h) k.theory (statements_of h.trees h.done) l (f h.trees) (all_fine h k) (subst (λ (b : Book). MayConclude b l (f b.trees)) (sym same) e)).statement,
+)
+
+pub leads_filled : (h : Held) (old : Book) (l : Step) (f : List Tree → Statement) (us : List Tree) (r : Result Stmt Memory) → book_of h ≡ old → MayConclude old l (f old.trees) → IfOk r (λ q. statement_of us q ≡ f h.trees) → IfOk r (λ q. MayConclude old l (statement_of us q))
+leads_filled h old l f us (Err m) same e p = tt
+leads_filled h old l f us (Ok q) same e p = subst (λ (s : Statement). MayConclude old l s) (sym (p ∙ ap (λ (b : Book). f b.trees) same)) e
 
 pub gives : (h : Held) (s : Stmt) (old : Book) (n : ℕ) → book_of h ≡ old → n ≡ length (h.done ++ s ∷ []) → Rests old (book_of (record h { lines = h.lines ++ line.Rest ∷ []; done = h.done ++ s ∷ []; given = Some s })) n (statement_of old.trees s)
 gives h s old n same e = rw (← same) (record {

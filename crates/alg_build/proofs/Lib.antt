@@ -8,7 +8,6 @@ pub mod Copying
 pub mod Leading
 pub mod Scaling
 pub mod CongruenceLemmas
-pub mod TestLemmas
 pub mod RowLines
 pub mod Rewritings
 pub mod TwoParts

@@ -16,7 +16,7 @@ use Rattle.alg_law.specs.WellSorted.{IsWellSorted, has_relation}
 use Rattle.alg_proof.specs.Admissible.{IsFine}
 use Rattle.alg_proof.specs.Steps.{Step}
 use Rattle.alg_build.specs.Book.{Book, Concludes, Grows, Proves, Adds, IsThere, IsEquation, fact, left_at, right_at}
-use Rattle.alg_build.proofs.Lines.{lines, grows-proves, adds-proves, adds-grows, adds-concludes, proves-equation, proves-fact, proves-left, proves-right}
+use Rattle.alg_build.proofs.Lines.{lines, grows-proves, adds-proves, adds-grows, proves-equation, proves-fact, proves-left, proves-right}
 use Rattle.alg_build.specs.declared.rewriting.Rewriting.{Rewriting}
 use Rattle.alg_build.specs.Rewriting.{Says, Turns, TurnsIn, Stands, Heads, IsTerm, IsProved, IsRewriting, Follows, Begins, StandsOver, StandsOverOne, Meet, Relates, Remains, PartsTurn, AllTurn}
 

@@ -5,7 +5,6 @@ pub mod RowCodes
 pub mod Codes
 pub mod Inside
 pub mod Backs
-pub mod Combos
 pub mod Sides
 pub mod Rewriting
 pub mod Answer

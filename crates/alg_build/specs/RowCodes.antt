@@ -12,18 +12,14 @@ use Rattle.alg_law.specs.declared.rows.Need.TheVariants as need
 use Rattle.alg_law.specs.Classes.{class_key, class_at, class_at-class_key}
 use Rattle.alg_law.specs.Patterns.{Pat, Letter, PLit, PApp, Pats, PNil, PCons, PatStatement}
 use Rattle.alg_law.specs.Rows.{Row}
-
-abbrev pub pat_sort_key : PatSort → ℕ
-pat_sort_key of.S = 0
-pat_sort_key of.Nat = 1
-pat_sort_key of.Int = 2
+use Rattle.alg_lemma.specs.Kinds.{kind_key}
 
 abbrev pub pat_sort_at : ℕ → PatSort
 pat_sort_at zero = of.S
 pat_sort_at (suc zero) = of.Nat
 pat_sort_at (suc (suc k)) = of.Int
 
-pub pat_sort_at-key : (s : PatSort) → pat_sort_at (pat_sort_key s) ≡ s
+pub pat_sort_at-key : (s : PatSort) → pat_sort_at (kind_key s) ≡ s
 pat_sort_at-key of.S = refl
 pat_sort_at-key of.Nat = refl
 pat_sort_at-key of.Int = refl
@@ -44,8 +40,8 @@ need_at-key need.IsNat = refl
 abbrev mutual
   pub pat_store : Pat → Gv
   pat_store (Letter k) = gcons (gnum 0) (gcons (gnum k) (gnum 0))
-  pat_store (PLit s n) = gcons (gnum 1) (gcons (gnum (pat_sort_key s)) (gnum n))
-  pat_store (PApp f s ps) = gcons (gcons (gnum (sym_key f)) (gnum (pat_sort_key s))) (pats_store ps)
+  pat_store (PLit s n) = gcons (gnum 1) (gcons (gnum (kind_key s)) (gnum n))
+  pat_store (PApp f s ps) = gcons (gcons (gnum (sym_key f)) (gnum (kind_key s))) (pats_store ps)
 
   pub pats_store : Pats → Gv
   pats_store PNil = gnil
@@ -88,7 +84,7 @@ pat_code = record { code = pat_store; inj = λ p q e. sym (pat_back-store p) ∙
 abbrev pub pat_statement_code : Coded PatStatement
 pat_statement_code =
     code_by (ℕ × (ℕ × (Pat × Pat))) (coded× coded_ℕ (coded× coded_ℕ (coded× pat_code pat_code)))
-    (λ s. (rel_key s.rel, (pat_sort_key s.sort, (s.lhs, s.rhs))))
+    (λ s. (rel_key s.rel, (kind_key s.sort, (s.lhs, s.rhs))))
     (λ p. record { rel = rel_at p.0; sort = pat_sort_at p.1.0; lhs = p.1.1.0; rhs = p.1.1.1 })
     (λ s i. record { rel = rel_at-rel_key s.rel i; sort = pat_sort_at-key s.sort i; lhs = s.lhs; rhs = s.rhs })
 

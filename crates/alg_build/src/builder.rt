@@ -2,9 +2,11 @@ ghost use Rattle.std.specs.Prelude.{◌≡◌, ℕ, ◌<◌, ◌≤◌, ◌^◌,
 ghost use Rattle.alg_terms.specs.Tree.{Lit, App, Statement, of_list};
 ghost use Rattle.alg_expr.specs.Ids.{tree_of, trees_at, IsIn, statement_of, IsStatementIn};
 ghost use Rattle.alg_expr.specs.Applying.{sorts_at, arity_fits, sorts_fit};
+ghost use Rattle.alg_law.specs.LawRows.{row_of};
 ghost use Rattle.alg_law.specs.WellSorted.{IsStatement};
 ghost use Rattle.alg_proof.specs.Admissible.{IsFine};
 ghost use Rattle.alg_proof.specs.Causes.{line_at};
+ghost use Rattle.alg_proof.specs.Citing.{conclusion_of};
 ghost use Rattle.alg_proof.specs.Lines.{step_of, steps_of, IsLineIn};
 ghost use Rattle.alg_proof.specs.Valid.{IsValid};
 ghost use Rattle.alg_build.specs.Atoms.{with_atom, number_of};
@@ -13,8 +15,8 @@ ghost use Rattle.alg_build.specs.Good.{AreGood, IsGood, MayConclude};
 ghost use Rattle.alg_build.specs.Inside.{theory_over};
 
 use alg_expr::{Arena, ExprId, Memory, Sort, Stmt, Sym};
-use alg_kernel::conclusion;
-use alg_law::Base;
+use alg_kernel::{conclusion, row_conclusion};
+use alg_law::{Base, Law};
 use alg_proof::{Lemmas, Line};
 use indexmap::IndexSet;
 use std::alloc::Global;
@@ -218,6 +220,23 @@ impl Builder {
             &self.done,
             line,
         )
+    }
+
+    // what a line concludes that cites a row for these trees, and is good
+    pub(crate) fn row_judged(
+        &mut self,
+        _line: &Line,
+        row: &Law,
+        sort: Sort,
+        with: &[ExprId],
+    ) -> Result<Stmt, Memory>
+        requires with_in { All (IsIn self.old.trees) with.now }
+        requires leads { MayConclude self.old (step_of self.old.trees _line.now) (conclusion_of (row_of row.now) sort (trees_at self.old.trees with.now)) }
+        ensures here { IfOk result (λ s. IsStatementIn self.new.trees s) }
+        ensures concludes { IfOk result (λ s. MayConclude self.old (step_of self.old.trees _line.now) (statement_of self.new.trees s)) }
+        ensures keeps { KeepsLines self.old self.new }
+    {
+        row_conclusion(&mut self.arena, row, sort, with)
     }
 
     /// Makes `s` the given statement, and adds the line that concludes it.

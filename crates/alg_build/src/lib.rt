@@ -30,6 +30,3 @@ pub use operations::{plus, times};
 pub use outcome::{Back, Outcome, TacFault};
 pub use over_parts::{under, under_one, under_two};
 pub use rewriting::Rewriting;
-
-#[cfg(test)]
-mod tests;

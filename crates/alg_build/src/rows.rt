@@ -20,7 +20,6 @@ use crate::builder::Builder;
 use alg_expr::{ExprId, Items, Memory, Sort, Sym};
 use alg_law::Law;
 use alg_proof::{LemmaRow, Line, RowName};
-use smallvec::SmallVec;
 use std::alloc::Global;
 
 impl Builder {
@@ -34,6 +33,20 @@ impl Builder {
         ensures err { OnErr result (KeepsLines self.old self.new) }
     {
         let s = self.judged(&l)?;
+        self.add(l, s)
+    }
+
+    // adds a good line that cites a row for these trees
+    #[tactic(auto, using(crate::proofs::Lines::lines))]
+    fn row_line(&mut self, l: Line, row: &Law, sort: Sort, with: &[ExprId]) -> Result<usize, Memory>
+        requires line_in { IsLineIn self.old.trees l }
+        requires with_in { All (IsIn self.old.trees) with.now }
+        requires leads { MayConclude self.old (step_of self.old.trees l) (conclusion_of (row_of row.now) sort (trees_at self.old.trees with.now)) }
+        ensures adds { IfOk result (λ n. Adds self.old self.new n (step_of self.old.trees l) (conclusion_of (row_of row.now) sort (trees_at self.old.trees with.now))) }
+        ensures grows { Grows self.old self.new }
+        ensures err { OnErr result (KeepsLines self.old self.new) }
+    {
+        let s = self.row_judged(&l, row, sort, with)?;
         self.add(l, s)
     }
 
@@ -73,7 +86,7 @@ impl Builder {
         let name = RowName::known(row.name);
         let letters = copies_of(self.alloc(), with)?;
         let numbers = numbers_of(self.alloc(), from)?;
-        self.line(Line::Law(name, sort, letters, numbers))
+        self.row_line(Line::Law(name, sort, letters, numbers), row, sort, with)
     }
 
     /// The same of a lemma of the builder's table.
@@ -97,7 +110,12 @@ impl Builder {
         let name = RowName::known(row.row.name);
         let letters = copies_of(self.alloc(), with)?;
         let numbers = numbers_of(self.alloc(), from)?;
-        self.line(Line::Lemma(name, sort, letters, numbers))
+        self.row_line(
+            Line::Lemma(name, sort, letters, numbers),
+            &row.row,
+            sort,
+            with,
+        )
     }
 }
 
@@ -107,13 +125,13 @@ fn copies_of(alloc: Global, with: &[ExprId]) -> Result<Items<ExprId>, Memory>
     Ok(Items::of(with.to_vec(alloc)?))
 }
 
-// These numbers as a list of a line: they are gathered in place, so that a short list is allocated once, at its size.
+// these numbers as a list of a line
 fn numbers_of(alloc: Global, parts: &[usize]) -> Result<Items<u128>, Memory>
     ensures { IfOk result (λ ns. ns ≡ parts.now) }
 {
-    let mut numbers: SmallVec<u128, 4> = SmallVec::new(alloc);
+    let mut numbers: Vec<u128> = Vec::with_capacity(alloc, parts.len())?;
     for i in parts {
         numbers.push(*i as u128)?;
     }
-    Ok(Items::of(numbers.into_vec()?))
+    Ok(Items::of(numbers))
 }

@@ -1,6 +1,6 @@
-ghost use Rattle.std.specs.Prelude.{◌≡◌, IfOk};
+ghost use Rattle.std.specs.Prelude.{◌≡◌, All, IfOk};
 ghost use Rattle.alg_build.specs.Book.{KeepsLines};
-ghost use Rattle.alg_build.specs.Combos.{part_of, parts_of, IsPartIn, ArePartsIn};
+ghost use Rattle.alg_law.specs.Combinations.{part_of, parts_at, IsStepIn};
 
 use crate::builder::Builder;
 use alg_expr::{Arena, Items, Memory};
@@ -9,9 +9,9 @@ use alg_law::{Combo, ComboStep};
 impl Builder {
     /// Copies a combination with its expressions, which are of another arena.
     pub fn import_combo(&mut self, from: &Arena, c: &Combo) -> Result<Combo, Memory>
-        requires { ArePartsIn from.now c.now.steps }
-        ensures here { IfOk result (λ d. ArePartsIn self.new.trees d.steps) }
-        ensures parts { IfOk result (λ d. parts_of self.new.trees d.steps ≡ parts_of from.now c.now.steps) }
+        requires { All (IsStepIn from.now) c.now.steps }
+        ensures here { IfOk result (λ d. All (IsStepIn self.new.trees) d.steps) }
+        ensures parts { IfOk result (λ d. parts_at self.new.trees d.steps ≡ parts_at from.now c.now.steps) }
         ensures keeps { KeepsLines self.old self.new }
     {
         let steps = self.copy_parts(from, c.steps.as_slice())?;
@@ -21,9 +21,9 @@ impl Builder {
     }
 
     fn copy_parts(&mut self, from: &Arena, steps: &[ComboStep]) -> Result<Vec<ComboStep>, Memory>
-        requires { ArePartsIn from.now steps.now }
-        ensures here { IfOk result (λ v. ArePartsIn self.new.trees v.items) }
-        ensures parts { IfOk result (λ v. parts_of self.new.trees v.items ≡ parts_of from.now steps.now) }
+        requires { All (IsStepIn from.now) steps.now }
+        ensures here { IfOk result (λ v. All (IsStepIn self.new.trees) v.items) }
+        ensures parts { IfOk result (λ v. parts_at self.new.trees v.items ≡ parts_at from.now steps.now) }
         ensures keeps { KeepsLines self.old self.new }
     {
         let mut copies: Vec<ComboStep> = Vec::new(self.alloc());
@@ -35,8 +35,8 @@ impl Builder {
     }
 
     fn copy_part(&mut self, from: &Arena, step: ComboStep) -> Result<ComboStep, Memory>
-        requires { IsPartIn from.now step }
-        ensures here { IfOk result (λ d. IsPartIn self.new.trees d) }
+        requires { IsStepIn from.now step }
+        ensures here { IfOk result (λ d. IsStepIn self.new.trees d) }
         ensures part { IfOk result (λ d. part_of self.new.trees d ≡ part_of from.now step) }
         ensures keeps { KeepsLines self.old self.new }
     {

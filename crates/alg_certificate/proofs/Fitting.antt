@@ -1,5 +1,5 @@
 -- The words of sorts and symbols are such.
-use Rattle.std.proofs.Common.{◌≡◌, ℕ, ◌≤◌, Bool, true, false, decimal, refl, ap}
+use Rattle.std.proofs.Common.{◌≡◌, ℕ, ◌≤◌, true, decimal, refl, ap}
 use Rattle.alg_terms.specs.declared.sorts.Sort.{Sort}
 use Rattle.alg_terms.specs.declared.sorts.Sort.TheVariants as sort
 use Rattle.alg_terms.specs.declared.symbols.Sym.{Sym}

@@ -1,20 +1,18 @@
 -- Items that the parts ask for are passed over by a reader of tokens.
-use Rattle.std.proofs.Common.{◌≡◌, ℕ, zero, suc, ◌≤◌, Bool, true, false, ◌&&◌, List, [], ◌∷◌, ◌++◌, Option, Some, None, refl, sym, ap, subst, ◌∙◌, append_assoc, if◌then◌else◌}
+use Rattle.std.proofs.Common.{◌≡◌, ℕ, suc, true, false, List, [], ◌∷◌, ◌++◌, Some, refl, sym, ap, subst, ◌∙◌, append_assoc}
 use Rattle.std.proofs.lemmas.Bool.{and_from}
 use Rattle.alg_terms.specs.declared.sorts.Sort.{Sort}
-use Rattle.alg_terms.specs.declared.symbols.Sym.{Sym}
 use Rattle.alg_terms.specs.Tree.{Tree, Trees, Nil, Cons, Lit as literal, Var as variable, App as node}
 use Rattle.alg_certificate.specs.declared.patterns.Slot.{Slot}
 use Rattle.alg_certificate.specs.declared.patterns.Slot.TheVariants as slot
 use Rattle.alg_certificate.specs.declared.patterns.Part.{Part}
 use Rattle.alg_certificate.specs.declared.patterns.Part.TheVariants.{One, Many}
-use Rattle.alg_certificate.specs.declared.walks.Spot.{Spot}
 use Rattle.alg_certificate.specs.declared.walks.Spot.TheVariants.{Between, Before, Opened, Beginning, Ended}
-use Rattle.alg_certificate.specs.Tokens.{Tok, Blank, Close, Semi, Open, Lit, Var, Word, begins_word, is_some_word, Good}
+use Rattle.alg_certificate.specs.Tokens.{Tok, Blank, Close, Semi, Open, Lit, Var, Word, begins_word}
 use Rattle.alg_certificate.specs.Lexed.{Lexed, tokens}
-use Rattle.alg_certificate.specs.Words.{sort_bytes, symbol_bytes, is_sort, is_symbol}
-use Rattle.alg_certificate.specs.Spelling.{spell, spell_all, Item, tree, word, semicolon, spell_item, spell_items, IsSome, SortFits, SymbolFits, TreeFits, TreesFit, bytes}
-use Rattle.alg_certificate.specs.Walks.{Standing, is_tree_slot, is_semicolon_slot, word_fits, fits, first_fit, may_stop, opens, begun, go, walks, walks_all, allows}
+use Rattle.alg_certificate.specs.Words.{sort_bytes, symbol_bytes}
+use Rattle.alg_certificate.specs.Spelling.{spell, spell_all, Item, tree, word, semicolon, spell_item, spell_items, IsSome, TreeFits, TreesFit, bytes}
+use Rattle.alg_certificate.specs.Walks.{is_semicolon_slot, fits, first_fit, may_stop, walks, walks_all, allows}
 use Rattle.alg_certificate.specs.Items.{FitsSlot, AllFit, Matches, AreItems}
 use Rattle.alg_certificate.proofs.ApartLaws.{Separated}
 use Rattle.alg_certificate.proofs.TokenLaws.{tokens_complete}

@@ -1,8 +1,7 @@
 -- What may stand for a word is a word.
-use Rattle.std.proofs.Common.{◌≡◌, ℕ, ◌+◌, ◌/◌, ◌%◌, ◌≤◌, ◌<◌, ℤ, Bool, true, false, ◌&&◌, List, [], ◌∷◌, ◌++◌, Option, Some, None, codes, decimal, refl, sym, ap, subst, ◌∙◌, arith, le-leb, leb-true}
+use Rattle.std.proofs.Common.{◌≡◌, ℕ, ◌+◌, ◌%◌, ◌≤◌, true, List, [], ◌∷◌, ◌++◌, Option, Some, None, codes, decimal, refl, sym, subst, arith, le-leb}
 use Rattle.std.proofs.lemmas.Fmt.{decimal_by_steps_wide}
-use Rattle.std.proofs.lemmas.Bool.{and_parts, and_from, or_parts}
-use Rattle.std.proofs.lemmas.Option.{none-some}
+use Rattle.std.proofs.lemmas.Bool.{and_parts, and_from}
 use Rattle.alg_terms.specs.declared.sorts.Sort.{Sort}
 use Rattle.alg_terms.specs.declared.sorts.Sort.TheVariants as sort
 use Rattle.alg_terms.specs.declared.symbols.Sym.{Sym}
@@ -13,10 +12,9 @@ use Rattle.alg_certificate.specs.declared.patterns.Slot.TheVariants as slot
 use Rattle.alg_certificate.specs.Numbers.{Read, read_number, max_number}
 use Rattle.alg_certificate.specs.Cutting.{after, is_empty}
 use Rattle.alg_certificate.specs.Tokens.{is_word, all_word, is_some_word}
-use Rattle.alg_certificate.specs.Words.{sort_bytes, symbol_bytes, is_number, ends_above, is_positive, then_positive, is_numeral, is_sort, is_symbol, is_relation, is_comparison, is_bridge, is_head, is_word_of}
+use Rattle.alg_certificate.specs.Words.{sort_bytes, symbol_bytes, is_number, ends_above, then_positive, is_sort, is_symbol, is_comparison, is_word_of}
 use Rattle.alg_certificate.specs.Spelling.{SortFits, SymbolFits}
 use Rattle.alg_certificate.specs.Walks.{word_fits}
-use Rattle.alg_certificate.proofs.NumberLaws.{number_sound}
 use Rattle.alg_certificate.proofs.WordLaws.{after_is, word_is, number_is, sort_is, symbol_is, either}
 
 digit_word : (c : ℕ) → 48 ≤ c → c ≤ 57 → is_word c ≡ true

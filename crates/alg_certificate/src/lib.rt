@@ -5,8 +5,6 @@ pub mod bytes;
 pub mod numbers;
 mod patterns;
 pub mod reader;
-#[cfg(test)]
-mod tests;
 pub mod tokens;
 mod trees;
 mod walks;

@@ -1,5 +1,5 @@
 -- The pieces of a line, where the base has what it names.
-use Rattle.std.proofs.Common.{◌≡◌, ℕ, ◌≤◌, Bool, true, false, ◌&&◌, ◌==◌, List, [], ◌∷◌, ◌++◌, All, Option, Some, None, Result, Ok, Err, IfOk, decimal, refl, sym, ap, subst, ◌∙◌, arith, append_assoc, append-nil, ne_eqb, ◌<◌, if◌then◌else◌}
+use Rattle.std.proofs.Common.{◌≡◌, ℕ, ◌≤◌, Bool, true, false, ◌&&◌, List, [], ◌∷◌, ◌++◌, All, Option, Some, None, Result, Ok, Err, IfOk, decimal, refl, sym, ap, subst, ◌∙◌, arith, append_assoc, append-nil, ne_eqb, ◌<◌, if◌then◌else◌}
 use Rattle.std.proofs.lemmas.Bool.{and_parts, both_ways}
 use Rattle.std.proofs.lemmas.Option.{none-some}
 use Rattle.std.proofs.lemmas.List.Elements.{All-head, All-tail, All-nil, All-cons}
@@ -25,17 +25,16 @@ use Rattle.alg_certificate.specs.Numbers.{max_number}
 use Rattle.alg_certificate.proofs.NumberLaws.{some_is}
 use Rattle.alg_certificate.proofs.Wordlike.{sort_word, symbol_word, number_word, name_word}
 use Rattle.alg_certificate.specs.Words.{sort_bytes, symbol_bytes, relation_bytes, bridge_bytes, head_bytes}
-use Rattle.alg_certificate.specs.Tokens.{Tok, Blank, Close, Semi, Open, Lit, Var, Word, is_word, all_word, is_some_word}
+use Rattle.alg_certificate.specs.Tokens.{Tok, Blank, Close, is_word, all_word, is_some_word}
 use Rattle.alg_certificate.specs.Spelling.{Item, tree, word, semicolon, bytes, spell, spell_all, spell_items, trees_before, numbers, IsInRange, SortFits, SymbolFits, HeadFits, TreeFits, TreesFit}
 use Rattle.alg_certificate_lines.specs.declared.faults.LineFault.{LineFault}
 use Rattle.alg_certificate_lines.specs.declared.faults.LineFault.TheVariants as fault
 use Rattle.alg_certificate_lines.specs.Kept.{kept_sort, kept_symbol, kept_head, named_head}
 use Rattle.alg_certificate_lines.specs.Known.{has_sort, has_symbol}
-use Rattle.alg_certificate_lines.specs.Words.{sort_named, symbol_named, head_named}
 use Rattle.alg_certificate_lines.specs.Following.{next_number, behind_semicolon}
 use Rattle.alg_certificate_lines.specs.Adding.{AreWords}
 use Rattle.alg_certificate_lines.specs.Steps.{LineRead, TreesRead, over_one, over_tree, over_trees, if_named, has_head, trees_read, step_read, GivesLine, GivesTrees}
-use Rattle.alg_certificate_lines.specs.Texts.{sort_there, symbol_there, head_there, Literals, sort_before_two, literals_of, literals_there, over_literals, relation_before, relation_of_word, relation_cut, over_relation, CutSymbol, symbol_before, symbol_of_word, symbol_cut, CutSort, sort_before, sort_of_word, sort_cut, CutComputation, head_before, computation_of_word, computation_cut, bridge_before, bridge_of_word, bridge_cut, CutRow, row_before, row_with_sort, row_of_word, row_cut, row_step}
+use Rattle.alg_certificate_lines.specs.Texts.{sort_there, symbol_there, head_there, sort_before_two, literals_of, literals_there, over_literals, relation_before, relation_of_word, relation_cut, over_relation, symbol_before, symbol_of_word, symbol_cut, sort_before, sort_of_word, sort_cut, head_before, computation_of_word, computation_cut, bridge_before, bridge_of_word, bridge_cut, row_before, row_with_sort, row_of_word, row_cut, row_step}
 use Rattle.alg_certificate_lines.proofs.Naming.{sort_is, symbol_is, head_is, relation_is, bridge_is}
 use Rattle.alg_certificate_lines.proofs.GivenLaws.{relation_word}
 use Rattle.alg_certificate_lines.proofs.TakingLaws.{sort_kept, symbol_kept}

@@ -1,15 +1,15 @@
 -- What a given line is read as.
-use Rattle.std.proofs.Common.{◌≡◌, ℕ, Bool, true, false, ◌&&◌, List, [], ◌∷◌, ◌++◌, All, Option, Some, None, Result, Ok, Err, IfOk, codes, refl, sym, ap, subst, ◌∙◌, if◌then◌else◌}
-use Rattle.std.proofs.lemmas.Bool.{and_parts, both_ways}
+use Rattle.std.proofs.Common.{◌≡◌, ℕ, Bool, true, false, ◌&&◌, List, [], ◌∷◌, ◌++◌, Some, None, Result, Ok, Err, IfOk, codes, refl, sym, ap, subst, ◌∙◌, if◌then◌else◌}
+use Rattle.std.proofs.lemmas.Bool.{and_parts}
 use Rattle.std.proofs.lemmas.Option.{none-some}
 use Rattle.alg_terms.specs.declared.sorts.Sort.{Sort}
 use Rattle.alg_terms.specs.declared.relations.Rel.{Rel}
 use Rattle.alg_terms.specs.declared.relations.Rel.TheVariants as rel
-use Rattle.alg_terms.specs.Tree.{Tree, Trees, Statement, sort_of_tree}
+use Rattle.alg_terms.specs.Tree.{Tree, Statement, sort_of_tree}
 use Rattle.alg_terms.specs.Order.{sort_same}
 use Rattle.alg_terms.proofs.OrderLaws.{sort_same-equal}
 use Rattle.alg_expr.specs.declared.ids.Stmt.{Stmt}
-use Rattle.alg_expr.specs.Ids.{IsIn, IsStatementIn, trees_at, statement_of}
+use Rattle.alg_expr.specs.Ids.{IsStatementIn, trees_at, statement_of}
 use Rattle.alg_law.specs.declared.marks.Mark.{Mark}
 use Rattle.alg_law.specs.declared.marks.Mark.TheVariants.{Good, NoInstance, BadSort, BadName}
 use Rattle.alg_law.specs.Declarations.{Declaration}
@@ -17,18 +17,17 @@ use Rattle.alg_law.specs.WellSorted.{mark_of, has_relation, IsStatement}
 use Rattle.alg_certificate.proofs.NumberLaws.{some_is}
 use Rattle.alg_certificate.proofs.LexingLaws.{front_is, behind_is}
 use Rattle.alg_certificate.proofs.Wordlike.{sort_word}
-use Rattle.alg_certificate.specs.Cutting.{after}
-use Rattle.alg_certificate.specs.Tokens.{is_word, all_word, begins_word, is_some_word, front, behind, first_word}
+use Rattle.alg_certificate.specs.Tokens.{begins_word, is_some_word, first_word}
 use Rattle.alg_certificate.specs.Words.{sort_bytes, relation_bytes}
 use Rattle.alg_certificate.specs.Spelling.{SortFits, StatementHasSpelling, given_bytes, bytes, spell_all}
 use Rattle.alg_certificate_lines.specs.declared.faults.LineFault.{LineFault}
 use Rattle.alg_certificate_lines.specs.declared.faults.LineFault.TheVariants as fault
 use Rattle.alg_certificate_lines.specs.Kept.{kept_sort}
-use Rattle.alg_certificate_lines.specs.Words.{sort_named, relation_named}
+use Rattle.alg_certificate_lines.specs.Words.{sort_named}
 use Rattle.alg_certificate_lines.specs.Known.{is_good, has_sort, all_known}
 use Rattle.alg_certificate_lines.specs.Typed.{typed_all}
 use Rattle.alg_certificate_lines.specs.Adding.{Flagged, ReadsTrees}
-use Rattle.alg_certificate_lines.specs.Given.{Read, sides, classed, sorted, over_sides, over_typed, given_read, Gives, Cut, with_relation_word, with_relation, behind_relation, with_sort_word, given_cut}
+use Rattle.alg_certificate_lines.specs.Given.{Read, sides, classed, sorted, over_sides, over_typed, given_read, Gives, with_relation_word, with_relation, with_sort_word, given_cut}
 use Rattle.alg_certificate_lines.proofs.Naming.{sort_is, relation_is}
 use Rattle.alg_certificate_lines.proofs.TakingLaws.{sort_kept}
 

@@ -1,25 +1,22 @@
 -- Items are read as they are spelled.
-use Rattle.std.proofs.Common.{to_z, of_z, ◌≡◌, ℕ, zero, suc, ◌+◌, ◌≤◌, ◌<◌, ℤ, pos, negsuc, unsigned_abs, Bool, true, false, ◌&&◌, ◌==◌, List, [], ◌∷◌, ◌++◌, length, All, Option, Some, None, Result, Ok, Err, codes, decimal, refl, sym, ap, subst, ◌∙◌, arith, ne_eqb, ◌%◌, append-nil, append_assoc, length-append, if◌then◌else◌}
+use Rattle.std.proofs.Common.{to_z, of_z, ◌≡◌, ℕ, suc, ◌+◌, ◌≤◌, ◌<◌, ℤ, pos, negsuc, unsigned_abs, Bool, true, false, ◌==◌, List, [], ◌∷◌, ◌++◌, length, All, Option, Some, None, codes, decimal, refl, sym, ap, subst, ◌∙◌, arith, ne_eqb, ◌%◌, append-nil, append_assoc, length-append, if◌then◌else◌}
 use Rattle.std.specs.Int.{w128}
 use Rattle.std.proofs.lemmas.Int.{to_z-of_z, fits_signed_from_abs}
 use Rattle.std.proofs.lemmas.Fmt.{decimal_by_steps_wide}
-use Rattle.std.proofs.lemmas.Bool.{and_parts, and_from}
+use Rattle.std.proofs.lemmas.Bool.{and_parts}
 use Rattle.std.proofs.lemmas.List.Elements.{All-head, All-tail}
 use Rattle.std.proofs.lemmas.Option.{none-some}
-use Rattle.alg_terms.specs.Tree.{Tree, Trees, Nil, Cons, Lit as literal, Var as variable, App as node, of_list}
-use Rattle.alg_proof.specs.Names.{IsName}
 use Rattle.alg_certificate.specs.Numbers.{Read, max_number}
 use Rattle.alg_certificate.proofs.NumberLaws.{some_is}
 use Rattle.alg_certificate.proofs.LexingLaws.{parts}
 use Rattle.alg_certificate.proofs.Walkable.{items_quiet}
-use Rattle.alg_certificate.proofs.Wordlike.{number_word, sort_word, symbol_word, name_word}
+use Rattle.alg_certificate.proofs.Wordlike.{number_word}
 use Rattle.alg_certificate.specs.Cutting.{after}
-use Rattle.alg_certificate.specs.Tokens.{Tok, Blank, Close, Semi, Open, Lit, Var, Word, is_word, all_word, begins_word, is_some_word, front, behind, first_word}
-use Rattle.alg_certificate.specs.Words.{sort_bytes, symbol_bytes, numeral_bytes}
-use Rattle.alg_certificate.specs.Spelling.{Item, tree, word, semicolon, bytes, spell, spell_all, spell_items, trees_before, numbers, numerals, IsInRange, TreeFits, TreesFit}
+use Rattle.alg_certificate.specs.Tokens.{begins_word, is_some_word, front, behind}
+use Rattle.alg_certificate.specs.Words.{numeral_bytes}
+use Rattle.alg_certificate.specs.Spelling.{Item, word, bytes, spell_items, numbers, numerals, IsInRange}
 use Rattle.alg_certificate_lines.specs.Words.{number_named, unsigned, negated, behind_sign, numeral_named}
-use Rattle.alg_certificate_lines.specs.Following.{CutWord, word_behind, next_word, with_rest, number_of_word, next_number, number_alone, one_number, before_one, then_one, two_numbers, before_two, then_two, three_numbers, word_before_two, word_then_two, word_and_two, numeral_before, numeral_of_word, next_numeral, behind_semicolon}
-use Rattle.alg_certificate_lines.specs.Adding.{AreWords}
+use Rattle.alg_certificate_lines.specs.Following.{CutWord, word_behind, next_word, with_rest, number_of_word, next_number, number_alone, one_number, before_one, then_one, two_numbers, before_two, then_two, three_numbers, word_before_two, word_then_two, word_and_two, numeral_before, numeral_of_word, next_numeral}
 use Rattle.alg_certificate_lines.proofs.Naming.{number_is}
 use Rattle.alg_certificate_lines.proofs.GivenLaws.{cut_first}
 

@@ -1,5 +1,5 @@
 -- The loop over the tokens that name something.
-use Rattle.std.proofs.Common.{◌≡◌, ℕ, Bool, true, false, ◌&&◌, List, [], ◌∷◌, Option, Some, None, refl, ap, ◌∙◌}
+use Rattle.std.proofs.Common.{◌≡◌, ℕ, true, false, ◌&&◌, List, [], ◌∷◌, Some, None, refl, ap, ◌∙◌}
 use Rattle.alg_law.specs.Declarations.{Declaration}
 use Rattle.alg_certificate.specs.Tokens.{Tok, read_token}
 use Rattle.alg_certificate.specs.Lexed.{Lexed, tokens}

@@ -1,33 +1,23 @@
 -- The line of each kind.
-use Rattle.std.proofs.Common.{◌≡◌, ℕ, ◌≤◌, ℤ, unsigned_abs, Bool, true, false, ◌&&◌, List, [], ◌∷◌, ◌++◌, All, Option, Some, None, Result, Ok, Err, decimal, refl, sym, ap, subst, ◌∙◌, append-nil, append_assoc, if◌then◌else◌}
+use Rattle.std.proofs.Common.{◌≡◌, ℕ, ◌≤◌, ℤ, unsigned_abs, true, List, [], ◌∷◌, All, Some, None, decimal, refl, sym, ap, subst, ◌∙◌}
 use Rattle.std.proofs.lemmas.Option.{none-some}
-use Rattle.std.proofs.lemmas.List.Elements.{All-head, All-tail}
 use Rattle.alg_terms.specs.declared.sorts.Sort.{Sort}
 use Rattle.alg_terms.specs.declared.symbols.Sym.{Sym}
 use Rattle.alg_terms.specs.declared.relations.Rel.{Rel}
-use Rattle.alg_terms.specs.Tree.{Tree, Trees, Nil, Cons, of_list}
-use Rattle.alg_expr.specs.declared.ids.ExprId.{ExprId}
-use Rattle.alg_expr.specs.Ids.{IsIn, trees_at}
-use Rattle.alg_law.specs.Declarations.{Declaration}
+use Rattle.alg_terms.specs.Tree.{Tree}
 use Rattle.alg_proof.specs.Names.{IsName}
 use Rattle.alg_proof.specs.declared.lines.BridgeKind.{BridgeKind}
 use Rattle.alg_proof.specs.declared.lines.ComputeHead.{ComputeHead}
-use Rattle.alg_proof.specs.declared.lines.Line.{Line}
 use Rattle.alg_proof.specs.Steps.{Step, Refl, Symm, Trans, Cong, Subst, Law, Lemma, Hyp, Rest, LitAdd, LitMul, LitRel, Bridge, Compute}
 use Rattle.alg_certificate.specs.Numbers.{max_number}
 use Rattle.alg_certificate.proofs.NumberLaws.{some_is}
-use Rattle.alg_certificate.proofs.Wordlike.{sort_word}
 use Rattle.alg_certificate.specs.Words.{sort_bytes, symbol_bytes, relation_bytes, bridge_bytes, head_bytes}
-use Rattle.alg_certificate.specs.Tokens.{is_some_word, first_word}
+use Rattle.alg_certificate.specs.Tokens.{is_some_word}
 use Rattle.alg_certificate.proofs.Walkable.{items_quiet}
-use Rattle.alg_certificate.specs.Spelling.{Item, tree, word, semicolon, bytes, spell, spell_all, spell_items, trees_before, numbers, numerals, IsInRange, SortFits, SymbolFits, HeadFits, TreeFits, TreesFit, HasOne, IsComparison, HasSpelling, head_of, items_of, step_bytes}
+use Rattle.alg_certificate.specs.Spelling.{tree, word, semicolon, bytes, spell_items, trees_before, numbers, numerals, IsInRange, SortFits, SymbolFits, HeadFits, TreeFits, HasSpelling, head_of, items_of, step_bytes}
 use Rattle.alg_certificate_lines.specs.declared.kinds.Kind.{Kind}
 use Rattle.alg_certificate_lines.specs.declared.kinds.Kind.TheVariants as kind
-use Rattle.alg_certificate_lines.specs.declared.faults.LineFault.{LineFault}
-use Rattle.alg_certificate_lines.specs.declared.faults.LineFault.TheVariants as fault
 use Rattle.alg_certificate_lines.specs.Kinds.{kind_of, kind_named, with_kind, behind_first, head_cut, Spells}
-use Rattle.alg_certificate_lines.specs.Steps.{LineRead, TreesRead, over_one, over_tree, over_trees, if_named, trees_read, step_read, GivesLine, GivesTrees}
-use Rattle.alg_certificate_lines.specs.Texts.{row_step}
 use Rattle.alg_certificate_lines.proofs.GivenLaws.{cut_first}
 
 -- what holds of each step of the kind that the text spells

@@ -1,11 +1,11 @@
 -- The loop over the tokens of trees, and what it comes to for spelled trees.
-use Rattle.std.proofs.Common.{◌≡◌, ℕ, Bool, true, false, ◌&&◌, List, [], ◌∷◌, ◌++◌, All, Option, Some, None, Result, Ok, Err, IfOk, refl, sym, ap, subst, ◌∙◌, append-nil, append_assoc, arith, length}
+use Rattle.std.proofs.Common.{◌≡◌, ℕ, Bool, true, false, ◌&&◌, List, [], ◌∷◌, ◌++◌, All, Option, Some, None, Result, Ok, Err, IfOk, refl, sym, ap, subst, ◌∙◌, append-nil, append_assoc, arith}
 use Rattle.alg_terms.specs.declared.symbols.Sym.{Sym}
 use Rattle.alg_terms.specs.Tree.{Tree, Trees, Nil, Cons, Lit as literal, Var as variable, App as node}
 use Rattle.alg_expr.specs.declared.ids.ExprId.{ExprId}
 use Rattle.alg_expr.specs.Arena.{Extends}
 use Rattle.alg_expr.proofs.ArenaLaws.{Extends-self, Extends-then}
-use Rattle.alg_expr.specs.Ids.{tree_of, trees_at, IsIn}
+use Rattle.alg_expr.specs.Ids.{trees_at, IsIn}
 use Rattle.alg_law.specs.Declarations.{Declaration}
 use Rattle.alg_certificate.specs.Tokens.{Tok, Blank, Close, Semi, Open, Word, read_token}
 use Rattle.alg_certificate.specs.Lexed.{Lexed, tokens}
@@ -14,14 +14,13 @@ use Rattle.alg_certificate.proofs.ApartLaws.{Separated}
 use Rattle.alg_certificate.proofs.Walkable.{trees_apart, items_quiet}
 use Rattle.alg_certificate.specs.Words.{symbol_bytes}
 use Rattle.alg_certificate.specs.Spelling.{Item, tree, word, semicolon, bytes, spell, spell_all, spell_items, TreeFits, TreesFit}
-use Rattle.alg_certificate_lines.specs.Kept.{kept_symbol, kept_sort}
-use Rattle.alg_certificate_lines.specs.Words.{sort_named, symbol_named}
-use Rattle.alg_certificate_lines.specs.Known.{has_sort, has_symbol, known, all_known, token_known, tokens_known}
+use Rattle.alg_certificate_lines.specs.Kept.{kept_symbol}
+use Rattle.alg_certificate_lines.specs.Known.{has_sort, has_symbol, known, all_known, tokens_known}
 use Rattle.alg_certificate_lines.specs.Typed.{typed_all}
 use Rattle.alg_certificate_lines.specs.Steps.{all_good}
 use Rattle.alg_certificate_lines.specs.declared.faults.LineFault.{LineFault}
 use Rattle.alg_certificate_lines.specs.declared.faults.LineFault.TheVariants as fault
-use Rattle.alg_certificate_lines.specs.Taking.{Opened, Built, taken, go_on, all_taken, newest}
+use Rattle.alg_certificate_lines.specs.Taking.{Opened, taken, go_on, all_taken, newest}
 use Rattle.alg_certificate_lines.specs.Adding.{Takes, Flagged, MakesAll, ReadsTrees, AreWords}
 use Rattle.alg_certificate_lines.proofs.Naming.{sort_is, symbol_is}
 use Rattle.alg_certificate_lines.proofs.KnownLaws.{known_more, known_end}

@@ -1,5 +1,5 @@
 -- What is spelled is named.
-use Rattle.std.proofs.Common.{◌≡◌, ℕ, ◌≤◌, ◌^◌, nat_lt, List, [], Option, Some, None, decimal, refl, sym, ap, ◌∙◌, append-nil}
+use Rattle.std.proofs.Common.{◌≡◌, ℕ, ◌≤◌, List, Option, Some, decimal, refl, sym, ap, ◌∙◌}
 use Rattle.alg_terms.specs.declared.sorts.Sort.{Sort}
 use Rattle.alg_terms.specs.declared.sorts.Sort.TheVariants as sort
 use Rattle.alg_terms.specs.declared.symbols.Sym.{Sym}
@@ -10,7 +10,7 @@ use Rattle.alg_proof.specs.declared.lines.BridgeKind.{BridgeKind}
 use Rattle.alg_proof.specs.declared.lines.BridgeKind.TheVariants as bridge
 use Rattle.alg_proof.specs.declared.lines.ComputeHead.{ComputeHead}
 use Rattle.alg_proof.specs.declared.lines.ComputeHead.TheVariants as head
-use Rattle.alg_certificate.specs.Numbers.{max_number, read_number}
+use Rattle.alg_certificate.specs.Numbers.{max_number}
 use Rattle.alg_certificate.specs.Words.{sort_bytes, symbol_bytes, relation_bytes, bridge_bytes, head_bytes}
 use Rattle.alg_certificate.specs.Spelling.{SortFits, SymbolFits, HeadFits}
 use Rattle.alg_certificate.proofs.NumberLaws.{number_whole}

@@ -1,5 +1,5 @@
 -- A symbol over trees of an arena.
-use Rattle.std.proofs.Common.{◌≡◌, ℕ, Bool, true, false, not, ◌&&◌, ◌||◌, nat_eq, List, [], ◌∷◌, length, All, Option, Some, None, map, refl, sym, ap, subst, ◌∙◌, arith, if◌then◌else◌}
+use Rattle.std.proofs.Common.{◌≡◌, ℕ, Bool, true, false, ◌&&◌, nat_eq, List, [], ◌∷◌, length, Option, Some, None, refl, sym, ap, ◌∙◌, arith, if◌then◌else◌}
 use Rattle.std.proofs.lemmas.Bool.{and_parts, both_ways}
 use Rattle.std.proofs.lemmas.Bool.Decides.{nat_tests}
 use Rattle.alg_terms.specs.declared.sorts.Sort.{Sort}
@@ -13,7 +13,7 @@ use Rattle.alg_expr.specs.Ids.{tree_of, trees_at}
 use Rattle.alg_law.specs.declared.marks.Mark.{Mark}
 use Rattle.alg_law.specs.declared.marks.Mark.TheVariants.{Good, NoInstance, BadSort, BadName}
 use Rattle.alg_law.specs.Declarations.{Declaration}
-use Rattle.alg_law.specs.WellSorted.{worse, sort_mark, class_mark, has_classes, built_in_mark, symbol_mark, head_mark}
+use Rattle.alg_law.specs.WellSorted.{worse, sort_mark, class_mark, has_classes, symbol_mark, head_mark}
 use Rattle.alg_proof.specs.Steps.{value_sort}
 use Rattle.alg_certificate_lines.specs.Typed.{is_sorted, sorts, node_over, node_of}
 

@@ -1,6 +1,5 @@
 -- A line of a valid proof has a spelling, where the numbers and names that it holds itself are such.
 use Rattle.std.proofs.Common.{◌≡◌, ℕ, zero, suc, ℤ, unsigned_abs, ◌+◌, ◌*◌, ◌^◌, ◌<◌, ◌≤◌, nat_eq, true, ◌&&◌, List, [], ◌∷◌, ◌++◌, length, All, Option, Some, None, Ok, Err, slice_get, refl, subst, arith, ltb-true, length-append}
-use Rattle.std.specs.Prelude.{⊤}
 use Rattle.std.proofs.lemmas.Bool.{and_parts}
 use Rattle.std.proofs.lemmas.List.Elements.{All-nil, All-cons, All-head, All-tail}
 use Rattle.std.proofs.lemmas.Option.{slice_get_within}

@@ -1,6 +1,6 @@
 -- The trees that the tokens of trees build are the trees with their sorts.
-use Rattle.std.proofs.Common.{◌≡◌, ℕ, zero, suc, ◌^◌, nat_lt, Bool, true, false, ◌&&◌, List, [], ◌∷◌, ◌++◌, length, take, drop, Option, Some, None, refl, sym, ap, subst, ◌∙◌, append_assoc, append-nil, take_at, drop_at, arith, le-leb, length-append, if◌then◌else◌}
-use Rattle.std.proofs.lemmas.Bool.{and_parts, and_from}
+use Rattle.std.proofs.Common.{◌≡◌, ℕ, Bool, true, false, List, [], ◌∷◌, ◌++◌, length, take, drop, Option, Some, None, refl, sym, ap, ◌∙◌, append_assoc, append-nil, take_at, drop_at, arith, le-leb, length-append, if◌then◌else◌}
+use Rattle.std.proofs.lemmas.Bool.{and_parts}
 use Rattle.std.proofs.lemmas.Option.{none-some}
 use Rattle.alg_terms.specs.declared.sorts.Sort.{Sort}
 use Rattle.alg_terms.specs.declared.sorts.Sort.TheVariants as sort
@@ -9,13 +9,13 @@ use Rattle.alg_terms.specs.declared.symbols.Sym.TheVariants as symbol
 use Rattle.alg_terms.specs.Tree.{Tree, Trees, Nil, Cons, Lit as literal, Var as variable, App as node}
 use Rattle.alg_law.specs.Declarations.{Declaration}
 use Rattle.alg_certificate.specs.Words.{sort_bytes, symbol_bytes}
-use Rattle.alg_certificate.specs.Tokens.{Tok, Blank, Close, Semi, Open, Lit, Var, Word}
-use Rattle.alg_certificate.specs.Spelling.{spell, spell_all, Item, tree, word, semicolon, spell_item, spell_items, TreeFits, TreesFit}
-use Rattle.alg_certificate_lines.specs.Kept.{kept_number, kept_sort, kept_symbol, numbered_sort, numbered_symbol}
+use Rattle.alg_certificate.specs.Tokens.{Tok, Blank, Close, Open, Lit, Var}
+use Rattle.alg_certificate.specs.Spelling.{spell, spell_all, TreeFits, TreesFit}
+use Rattle.alg_certificate_lines.specs.Kept.{kept_sort, kept_symbol, numbered_sort, numbered_symbol}
 use Rattle.alg_certificate_lines.specs.Words.{sort_named, symbol_named}
-use Rattle.alg_certificate_lines.specs.Known.{is_there, has_sort, has_symbol, variable_sort, known, all_known, token_known, tokens_known}
+use Rattle.alg_certificate_lines.specs.Known.{has_sort, has_symbol, variable_sort, known, all_known}
 use Rattle.alg_certificate_lines.specs.Typed.{node_of, then_node, variable_of_sort, both, typed, typed_all}
-use Rattle.alg_certificate_lines.specs.Taking.{Opened, Built, with_tree, literal_in, opening, closing, taken, go_on, all_taken, newest}
+use Rattle.alg_certificate_lines.specs.Taking.{Opened, Built, with_tree, literal_in, opening, closing, taken, go_on, all_taken}
 use Rattle.alg_certificate_lines.proofs.Naming.{sort_is, symbol_is}
 
 -- what is known is kept

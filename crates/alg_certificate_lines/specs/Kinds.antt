@@ -1,5 +1,5 @@
 -- The fourteen kinds of proof lines, by the word that a line begins with.
-use Rattle.std.specs.Prelude.{◌≡◌, ℕ, List, [], ◌∷◌, Option, Some, None, codes, if◌then◌else◌}
+use Rattle.std.specs.Prelude.{◌≡◌, ℕ, List, Option, Some, None, codes, if◌then◌else◌}
 use Rattle.alg_certificate.specs.Tokens.{first_word}
 use Rattle.alg_certificate.specs.Words.{is_word_of}
 use Rattle.alg_certificate.specs.Spelling.{HasSpelling, items_of, spell_items, bytes}

@@ -1,12 +1,10 @@
 -- What a proof line is read as: a step over trees with their sorts, or the first cause.
-use Rattle.std.specs.Prelude.{◌≡◌, ℕ, Bool, true, false, ◌&&◌, List, [], ◌∷◌, All, Option, Some, None, Result, Ok, Err, ⊤, if◌then◌else◌}
-use Rattle.alg_terms.specs.declared.sorts.Sort.{Sort}
+use Rattle.std.specs.Prelude.{◌≡◌, Bool, true, false, ◌&&◌, List, [], ◌∷◌, All, Option, Some, None, Result, Ok, Err, ⊤, if◌then◌else◌}
 use Rattle.alg_terms.specs.Tree.{Tree, Trees, Nil, Cons, of_list}
 use Rattle.alg_expr.specs.declared.ids.ExprId.{ExprId}
 use Rattle.alg_expr.specs.Ids.{IsIn, trees_at}
 use Rattle.alg_law.specs.Declarations.{Declaration}
 use Rattle.alg_law.specs.WellSorted.{mark_of}
-use Rattle.alg_proof.specs.declared.lines.BridgeKind.{BridgeKind}
 use Rattle.alg_proof.specs.declared.lines.ComputeHead.{ComputeHead}
 use Rattle.alg_proof.specs.declared.lines.Line.{Line}
 use Rattle.alg_proof.specs.Lines.{step_of, IsLineIn}

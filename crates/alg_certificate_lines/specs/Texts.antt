@@ -1,5 +1,5 @@
 -- What the text behind a line's first word is read as, for the kinds without trees and lists.
-use Rattle.std.specs.Prelude.{◌≡◌, ℕ, Bool, true, false, ⊤, List, [], ◌∷◌, Option, Some, None, Result, Ok, Err, codes, if◌then◌else◌}
+use Rattle.std.specs.Prelude.{◌≡◌, ℕ, Bool, true, false, ⊤, List, Option, Some, None, Result, Ok, Err, if◌then◌else◌}
 use Rattle.alg_terms.specs.declared.sorts.Sort.{Sort}
 use Rattle.alg_terms.specs.declared.symbols.Sym.{Sym}
 use Rattle.alg_terms.specs.declared.relations.Rel.{Rel}
@@ -13,7 +13,7 @@ use Rattle.alg_certificate_lines.specs.declared.faults.LineFault.{LineFault}
 use Rattle.alg_certificate_lines.specs.declared.faults.LineFault.TheVariants as fault
 use Rattle.alg_certificate_lines.specs.Words.{sort_named, symbol_named, head_named, relation_named, bridge_named}
 use Rattle.alg_certificate_lines.specs.Known.{has_sort, has_symbol}
-use Rattle.alg_certificate_lines.specs.Following.{CutWord, next_word, next_number, two_numbers, word_and_two, behind_semicolon}
+use Rattle.alg_certificate_lines.specs.Following.{CutWord, next_word, next_number, word_and_two, behind_semicolon}
 use Rattle.alg_certificate_lines.specs.Steps.{LineRead, has_head}
 
 abbrev pub over_number : (ℕ → Step) → Option ℕ → LineRead

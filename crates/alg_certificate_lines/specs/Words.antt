@@ -1,5 +1,5 @@
 -- Which sort, symbol, relation or number a word names, where it names one.
-use Rattle.std.specs.Prelude.{ℕ, zero, suc, ℤ, pos, negsuc, ◌^◌, ◌&&◌, nat_lt, List, [], ◌∷◌, Option, Some, None, codes, if◌then◌else◌}
+use Rattle.std.specs.Prelude.{ℕ, zero, suc, ℤ, pos, negsuc, ◌^◌, nat_lt, List, Option, Some, None, codes, if◌then◌else◌}
 use Rattle.alg_terms.specs.declared.sorts.Sort.{Sort}
 use Rattle.alg_terms.specs.declared.sorts.Sort.TheVariants as sort
 use Rattle.alg_terms.specs.declared.symbols.Sym.{Sym}

@@ -16,6 +16,4 @@ mod numbers;
 mod one_tree;
 mod rows;
 pub mod symbols;
-#[cfg(test)]
-mod tests;
 pub mod words;

@@ -1,10 +1,10 @@
 -- A certificate has no more lines than bytes.
-use Rattle.std.proofs.Common.{◌≡◌, ℕ, suc, ◌+◌, ◌<◌, ◌≤◌, List, [], ◌∷◌, length, Bool, true, false, refl, ap, sym, ◌∙◌, subst, arith, Some, None}
+use Rattle.std.proofs.Common.{◌≡◌, ℕ, suc, ◌+◌, ◌≤◌, List, [], ◌∷◌, length, Bool, true, false, refl, ap, arith, Some, None}
 use Rattle.std.specs.Prelude.{Option, codes, ◌&&◌, ◌==◌, if◌then◌else◌}
 use Rattle.alg_certificate.specs.declared.reader.State.{State}
 use Rattle.alg_certificate.specs.declared.reader.State.TheVariants.{Outside}
-use Rattle.alg_certificate.specs.Cutting.{Cut, after, is_empty, into, add, cut}
-use Rattle.alg_certificate.specs.Reader.{Coming, TextLine, kind_of, line_in, may_end, fails, ended, with_line, lines_from, coming_at, after_header, coming_of}
+use Rattle.alg_certificate.specs.Cutting.{Cut, after, is_empty, into, cut}
+use Rattle.alg_certificate.specs.Reader.{Coming, TextLine, kind_of, line_in, may_end, fails, with_line, lines_from, after_header, coming_of}
 
 ended_none : (b : Bool) (at : ℕ) → length (if b then record { lines = []; fault = None } else fails at).lines ≤ 0
 ended_none true at = omega arith

@@ -17,7 +17,7 @@ use Rattle.alg_certificate.specs.Reader.{TextLine, goal_line, given_line, proof_
 use Rattle.alg_certificate.specs.Items.{IsProofText, IsGivenText}
 use Rattle.alg_certificate.specs.Grammar.{IsTextOf, behind_line, AreLines, header, AreLinesOf}
 use Rattle.alg_certificate.proofs.SpelledTexts.{spelled_step, spelled_statement}
-use Rattle.alg_check.specs.Entries.{Entry, EntryHasSpelling, IsNoEnd, given_lines, proof_lines, lines_of, AreEntriesOf, SomeEntries}
+use Rattle.alg_check.specs.Entries.{Entry, EntryHasSpelling, IsNoEnd, given_lines, proof_lines, lines_of, SomeEntries}
 
 -- the lines go on with a proof up to its end, and then are those of entries
 record EndsProof (ls : List TextLine) : Type 0 where

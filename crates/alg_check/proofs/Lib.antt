@@ -9,3 +9,4 @@ pub mod EntryLaws
 pub mod GoalLaws
 pub mod MeantLaws
 pub mod WrittenEntries
+pub mod CertifiedLaws

@@ -1,5 +1,5 @@
 -- What was read is what is meant.
-use Rattle.std.proofs.Common.{◌≡◌, List, ap, Ok, Err, Result}
+use Rattle.std.proofs.Common.{List, ap, Ok, Err, Result}
 use Rattle.alg_terms.specs.Tree.{Tree, Statement}
 use Rattle.alg_expr.specs.declared.ids.Stmt.{Stmt}
 use Rattle.alg_law.specs.Declarations.{Declaration}

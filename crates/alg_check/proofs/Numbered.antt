@@ -1,6 +1,6 @@
 -- Goals by their numbers.
-use Rattle.std.proofs.Common.{◌≡◌, ℕ, zero, suc, ◌-◌, ◌<◌, ◌≤◌, List, [], ◌∷◌, length, map, get_or, Some, true, refl, ap, sym, ◌∙◌, arith}
-use Rattle.std.specs.Prelude.{Option, None, nat_lt, slice_get, if◌then◌else◌}
+use Rattle.std.proofs.Common.{◌≡◌, ℕ, zero, suc, ◌-◌, ◌<◌, ◌≤◌, List, [], ◌∷◌, length, map, get_or, Some, refl, ap, sym, ◌∙◌, arith}
+use Rattle.std.specs.Prelude.{None, nat_lt, slice_get, if◌then◌else◌}
 use Rattle.std.proofs.lemmas.Bool.{lt-ltb}
 use Rattle.alg_proof.specs.Causes.{line_at}
 

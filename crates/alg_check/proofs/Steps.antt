@@ -8,7 +8,6 @@ use Rattle.std.proofs.lemmas.List.Elements.{All-head, All-tail}
 use Rattle.alg_terms.specs.declared.causes.BadCause.{BadCause}
 use Rattle.alg_terms.specs.Tree.{Tree, Statement}
 use Rattle.alg_expr.specs.Arena.{Extends}
-use Rattle.alg_law.specs.Declarations.{Declaration}
 use Rattle.alg_proof.specs.Causes.{Concludes}
 use Rattle.alg_proof.specs.Steps.{Theory, Step, conclude}
 use Rattle.alg_proof.specs.Valid.{Verdict, BadAt, go_on}

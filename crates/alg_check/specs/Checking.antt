@@ -7,7 +7,6 @@ use Rattle.alg_certificate.specs.Reader.{Coming}
 use Rattle.alg_check.specs.Entries.{Entry, AreEntriesOf}
 use Rattle.alg_check.specs.Goals.{Goal}
 use Rattle.alg_check.specs.Findings.{Finding, findings, tally_of}
-use Rattle.alg_check.specs.Text.{lines_text, whole_text}
 use Rattle.alg_check.specs.declared.tallies.Tally.{Tally}
 use Rattle.alg_check.specs.declared.stops.Stop.{Stop}
 

@@ -1,5 +1,5 @@
 -- What the check finds of the entries, in order, and how many it accepts.
-use Rattle.std.specs.Prelude.{◌≡◌, ℕ, ◌+◌, Bool, true, false, not, List, [], ◌∷◌, Option, Some, None, count_by}
+use Rattle.std.specs.Prelude.{ℕ, ◌+◌, Bool, true, false, not, List, [], ◌∷◌, Option, Some, None, count_by}
 use Rattle.alg_law.specs.Rows.{Row}
 use Rattle.alg_check.specs.Entries.{Entry}
 use Rattle.alg_check.specs.Goals.{Goal, goal_for}

@@ -1,5 +1,5 @@
 -- The goals of a file, which are numbered from 1.
-use Rattle.std.specs.Prelude.{◌≡◌, ℕ, List, [], ◌∷◌, ◌++◌, take, Option, None, nat_lt, if◌then◌else◌}
+use Rattle.std.specs.Prelude.{ℕ, List, [], ◌∷◌, ◌++◌, take, Option, None, nat_lt, if◌then◌else◌}
 use Rattle.std.specs.List.{flat_map}
 use Rattle.alg_terms.specs.Tree.{Tree, Statement}
 use Rattle.alg_expr.specs.Ids.{statement_of}

@@ -1,8 +1,6 @@
 -- Entries as the reader gives them: with their texts, before anything is known of their steps.
 use Rattle.std.specs.Prelude.{◌≡◌, ℕ, ◌<◌, Bool, true, false, List, [], ◌∷◌, ◌++◌, map, length, Option, Some, None, option_map}
 use Rattle.std.specs.Borrow.{Bor}
-use Rattle.alg_terms.specs.Tree.{Statement}
-use Rattle.alg_proof.specs.Steps.{Step}
 use Rattle.alg_certificate.specs.Spelling.{step_bytes, given_bytes}
 use Rattle.alg_certificate.specs.Reader.{Coming, TextLine, goal_line, given_line, proof_line, end_line}
 use Rattle.alg_check.specs.Entries.{Entry}

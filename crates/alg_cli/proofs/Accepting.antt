@@ -19,7 +19,8 @@ use Rattle.alg_certificate.specs.Spelling.{step_bytes, given_bytes, goal_bytes}
 use Rattle.alg_certificate.specs.Reader.{TextLine, end_line, Coming, coming_of}
 use Rattle.alg_certificate.specs.Grammar.{header}
 use Rattle.alg_certificate.proofs.WrittenLines.{lines_bytes}
-use Rattle.alg_check.specs.Certified.{Proves, Certify, none_refused}
+use Rattle.alg_check.specs.Certified.{Proves, Certify}
+use Rattle.alg_check.proofs.CertifiedLaws.{none_refused}
 use Rattle.alg_check.specs.Entries.{Entry, given_lines, proof_lines, lines_of, AreEntriesOf}
 use Rattle.alg_check.specs.Findings.{findings, tally_of}
 use Rattle.alg_check.specs.Goals.{Goal, goals_in, goals_of}

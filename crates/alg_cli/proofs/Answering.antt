@@ -1,6 +1,6 @@
 -- What the top call answers, from what its parts did.
-use Rattle.std.proofs.Common.{◌≡◌, ℕ, ◌<◌, ◌≤◌, List, [], ◌∷◌, ◌++◌, length, refl, ap, sym, ◌∙◌, Bool, true, false, Some, None, inl, inr, arith, subst}
-use Rattle.std.specs.Prelude.{Option, Result, Ok, Err, IsErrOf, ◌⊎◌, IfSome, IsSomeAnd}
+use Rattle.std.proofs.Common.{◌≡◌, ℕ, ◌<◌, ◌≤◌, List, length, refl, ap, sym, ◌∙◌, Bool, true, false, Some, None, inl, inr, arith, subst}
+use Rattle.std.specs.Prelude.{Option, Result, Ok, Err, IsErrOf, IfSome, IsSomeAnd}
 use Rattle.std.specs.Str.{IsUtf8}
 use Rattle.std.specs.Option.{option_map}
 use Rattle.alg_host.specs.Host.{Told, Loads, HasRisen, called, adds_complained}

@@ -1,14 +1,15 @@
 -- What a whole plan appends is a certificate.
-use Rattle.std.proofs.Common.{◌≡◌, ℕ, ◌+◌, List, [], ◌∷◌, ◌++◌, refl, ap, sym, ◌∙◌, Bool, true, false, append_assoc, append-nil, Some, None, subst}
-use Rattle.std.specs.Prelude.{Option, is_some}
+use Rattle.std.proofs.Common.{◌≡◌, ℕ, ◌+◌, List, [], ◌∷◌, ◌++◌, refl, ap, sym, ◌∙◌, true, false, append-nil, Some, None, subst}
+use Rattle.std.specs.Prelude.{Option}
 use Rattle.alg_law.specs.Declarations.{Declaration}
 use Rattle.alg_kernel.specs.Claims.{Claim}
 use Rattle.alg_parse.specs.Told as parsed
 use Rattle.alg_cli.specs.Effects.{Effects, nothing, and_then, appends, says, hands_over, creates}
-use Rattle.alg_cli.specs.Verdict.{Verdict, Closed, Failed}
+use Rattle.alg_cli.specs.Verdict.{Closed, Failed}
 use Rattle.alg_cli.specs.Report.{Finding, of_goal, of_fault, findings_of, last_line_of, verdict_text}
-use Rattle.alg_cli.specs.Certificate.{IsEntry, heading, claim_in, goals_in, IsEntryOf, AreEntries, IsCertificate}
-use Rattle.alg_cli.specs.Plan.{Event, Starts, Appends, Certifies, HandsOver, Says, IsWhole, AreWhole, events_at, events_from, start_of, plan_of}
+use Rattle.alg_cli.specs.Certificate.{claim_in, goals_in, IsEntryOf, AreEntries, IsCertificate}
+use Rattle.alg_certificate.specs.Grammar.{header}
+use Rattle.alg_cli.specs.Plan.{Event, Starts, Appends, HandsOver, Says, AreWhole, events_at, events_from, plan_of}
 use Rattle.alg_cli.specs.Run.{IsCertified}
 use Rattle.alg_cli.proofs.Reaching.{then_assoc, nothing_then}
 
@@ -113,19 +114,19 @@ report_quiet shared fs text d w =
 
 -- the whole plan
 
-start_is : (path : List ℕ) (d : Effects) → AreWhole (Starts path ∷ Appends heading ∷ []) d → d ≡ and_then (creates path) (and_then (appends heading) nothing)
-start_is path d w = w.4 ∙ ap (λ e. and_then e w.1) w.2 ∙ ap (λ e. and_then (creates path) e) (w.3.4 ∙ ap (λ e. and_then e w.3.1) w.3.2 ∙ ap (λ e. and_then (appends heading) e) w.3.3)
+start_is : (path : List ℕ) (d : Effects) → AreWhole (Starts path ∷ Appends header ∷ []) d → d ≡ and_then (creates path) (and_then (appends header) nothing)
+start_is path d w = w.4 ∙ ap (λ e. and_then e w.1) w.2 ∙ ap (λ e. and_then (creates path) e) (w.3.4 ∙ ap (λ e. and_then e w.3.1) w.3.2 ∙ ap (λ e. and_then (appends header) e) w.3.3)
 
-certificate : (path : List ℕ) (shared : List Declaration) (fs : List Finding) (d e f : Effects) → f ≡ and_then d e → d ≡ and_then (creates path) (and_then (appends heading) nothing) → Entries shared 1 fs e
+certificate : (path : List ℕ) (shared : List Declaration) (fs : List Finding) (d e f : Effects) → f ≡ and_then d e → d ≡ and_then (creates path) (and_then (appends header) nothing) → Entries shared 1 fs e
     → (f.created ≡ true) × IsCertificate shared fs f.appended
 certificate path shared fs d e f both start entries =
     let created : f.created ≡ true = rw (both, start) refl in
-    let spelled : f.appended ≡ heading ++ entries.bytes = rw (both, entries.adds.0, entries.adds.1, start) refl in
+    let spelled : f.appended ≡ header ++ entries.bytes = rw (both, entries.adds.0, entries.adds.1, start) refl in
     (created, record { entries = entries.bytes; are = entries.are; spelled = spelled })
 
 pub all_certified : (cert : Option (List ℕ)) (shared : List Declaration) (ts : List parsed.Told) (d : Effects) → AreWhole (plan_of cert shared ts) d → IsCertified cert shared (findings_of ts) d
 all_certified None shared ts d w = report_quiet shared (findings_of ts) (last_line_of (findings_of ts)) d w
 all_certified (Some path) shared ts d w =
-    let s = split (Starts path ∷ Appends heading ∷ []) (events_from true shared 1 (findings_of ts) ++ Says (last_line_of (findings_of ts)) ∷ []) d w in
+    let s = split (Starts path ∷ Appends header ∷ []) (events_from true shared 1 (findings_of ts) ++ Says (last_line_of (findings_of ts)) ∷ []) d w in
     certificate path shared (findings_of ts) s.front s.back d s.both (start_is path s.front s.front_whole)
     (report_adds shared (findings_of ts) (last_line_of (findings_of ts)) s.back s.back_whole)

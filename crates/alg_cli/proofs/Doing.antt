@@ -1,9 +1,9 @@
 -- What one call adds, and then another.
-use Rattle.std.proofs.Common.{◌≡◌, ℕ, List, [], ◌∷◌, ◌++◌, refl, ap, sym, ◌∙◌, Bool, true, false, append_assoc, append-nil, Some, None}
+use Rattle.std.proofs.Common.{◌≡◌, ℕ, List, refl, ap, Bool, true, false, append_assoc, append-nil, Some, None}
 use Rattle.std.specs.Prelude.{◌||◌, Option}
 use Rattle.std.specs.Option.{option_map}
 use Rattle.alg_kernel.specs.Claims.{Claim}
-use Rattle.alg_host.specs.Host.{Told, Call, Creates, called, created, adds_said, adds_appended, adds_proved}
+use Rattle.alg_host.specs.Host.{Told, Call, called, created, adds_said, adds_appended, adds_proved}
 use Rattle.alg_cli.specs.Effects.{Effects, Does, after, and_then, nothing, asks, creates, says, appends, hands_over, since_created}
 
 pub does_nothing : (t : Option Told) → Does t t nothing

@@ -1,7 +1,7 @@
 -- How far a run has come, after one part of its plan and then another.
 use Rattle.std.proofs.Common.{◌≡◌, ℕ, List, [], ◌∷◌, ◌++◌, refl, ap, sym, ◌∙◌, Bool, true, false, append_assoc, append-nil, inl, inr, subst}
 use Rattle.std.specs.Prelude.{◌||◌, Option, Result, OnOk, Ok, Err, IsErr}
-use Rattle.alg_host.specs.Host.{Told, IsPrefix}
+use Rattle.alg_host.specs.Host.{Told}
 use Rattle.alg_cli.specs.Effects.{Effects, Does, and_then, nothing, since_created}
 use Rattle.alg_cli.specs.Plan.{Event, Starts, Appends, Certifies, HandsOver, Says, IsWhole, AreWhole, IsPart, Reached, Did}
 use Rattle.alg_cli.proofs.Doing.{same_created, does_then, does_nothing}

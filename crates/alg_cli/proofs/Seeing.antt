@@ -9,7 +9,7 @@ use Rattle.alg_parse.specs.declared.procedures.Proc.TheVariants.{Named, LinearCo
 use Rattle.alg_parse.specs.declared.file_trees.Command.{Command}
 use Rattle.alg_parse.specs.declared.file_trees.Command.TheVariants.{Declares, Goal, Fault}
 use Rattle.alg_parse.specs.declared.file_trees.FileTree.{FileTree}
-use Rattle.alg_parse.specs.Told.{Told, Call, plain, combination}
+use Rattle.alg_parse.specs.Told.{Told, Call}
 use Rattle.alg_parse.specs.FileTrees.{IsCall, AreCalls, IsTold, AreTold, IsRead}
 use Rattle.alg_cli.specs.Plan.{Did, Event, plan_of}
 use Rattle.alg_cli.specs.Report.{Finding, of_goal, findings_at, findings_of, tally_of, IsAllClosed}

@@ -7,12 +7,12 @@ use Rattle.alg_law.specs.Declarations.{Declaration}
 use Rattle.alg_kernel.specs.Claims.{Claim}
 use Rattle.alg_host.specs.Host.{Call, Creates, IsPrefix}
 use Rattle.alg_parse.specs.Told as parsed
-use Rattle.alg_cli.specs.Effects.{Effects, nothing, and_then, appends}
+use Rattle.alg_cli.specs.Effects.{Effects, nothing, and_then}
 use Rattle.alg_cli.specs.Verdict.{Verdict, Closed, Failed}
 use Rattle.alg_cli.specs.Report.{Finding, of_goal, of_fault, verdict_text, entry_text, entry_texts, findings_of, last_line_of, report_of}
-use Rattle.alg_cli.specs.Certificate.{IsEntry, heading, claim_in, goals_in, IsEntryOf, AreEntries, IsCertificate}
+use Rattle.alg_cli.specs.Certificate.{claim_in, goals_in}
 use Rattle.alg_cli.specs.Plan.{Event, Starts, Appends, Certifies, HandsOver, Says, IsWhole, AreWhole, IsPart, Reached, numbered, goal_events, events_at, events_from, start_of, plan_of}
-use Rattle.alg_cli.specs.Run.{claims_at, claims_of, creation_of, IsCertified}
+use Rattle.alg_cli.specs.Run.{claims_at, claims_of, creation_of}
 
 -- lists that whole events add to, one after another
 whole_list : {A : Type 0} (of : Effects → List A) (by : Event → List A) → of nothing ≡ [] → ((d e : Effects) → of (and_then d e) ≡ of d ++ of e) → ((x : Event) (d : Effects) → IsWhole x d → of d ≡ by x)

@@ -19,7 +19,7 @@ use Rattle.alg_parse.specs.declared.file_trees.Command.TheVariants as command
 use Rattle.alg_parse.specs.Told as parsed
 use Rattle.alg_cli.specs.Seen.{calls_seen, goal_seen, told_seen}
 use Rattle.alg_cli.specs.Certificate.{IsEntry, claim_in, goals_in, goals_of}
-use Rattle.alg_cli.specs.Plan.{Did, Event, Appends, Certifies, Says, AreWhole, Reached, certifies, numbered, proof_events, goal_events, events_at, events_from, start_of, plan_of}
+use Rattle.alg_cli.specs.Plan.{Did, Event, Appends, Certifies, Says, AreWhole, certifies, numbered, proof_events, goal_events, events_at, events_from, start_of, plan_of}
 use Rattle.alg_cli.specs.Report.{Goal, Finding, of_goal, of_fault, findings_at, findings_of, tally_of, total_of, is_closed, is_failed, is_error, tally_text, verdict_text}
 use Rattle.alg_cli.specs.Verdict.{Verdict, Closed, Failed, verdict_of}
 use Rattle.alg_cli.specs.Entry.{plus, with_verdict, verdict_in, next_goal, IsEntryFor, IsFateOf, HasEntry, events_of_fate}

@@ -6,14 +6,11 @@ use Rattle.alg_proof.specs.Steps.{Theory, Step}
 use Rattle.alg_proof.specs.Valid.{IsValid}
 use Rattle.alg_lemma.specs.Lemmas.{lemma_table}
 use Rattle.alg_kernel.specs.Claims.{Claim}
+use Rattle.alg_certificate.specs.Grammar.{header}
 use Rattle.alg_certificate.specs.Numbers.{max_number}
 use Rattle.alg_certificate.specs.Spelling.{step_bytes, given_bytes, goal_bytes, HasSpelling, StatementHasSpelling}
-use Rattle.alg_cli.specs.Verdict.{Verdict, Closed, Failed}
+use Rattle.alg_cli.specs.Verdict.{Closed, Failed}
 use Rattle.alg_cli.specs.Report.{Goal, Finding, of_goal, of_fault}
-
--- the first line
-abbrev pub heading : List ℕ
-heading = codes "algebra-cert 1\n"
 
 -- each in a line of its own
 abbrev pub step_lines : List Step → List ℕ
@@ -70,4 +67,4 @@ AreEntries shared number (f ∷ fs) bytes =
 pub record IsCertificate (shared : List Declaration) (fs : List Finding) (bytes : List ℕ) : Type 0 where
   pub entries : List ℕ
   pub are : AreEntries shared 1 fs entries
-  pub spelled : bytes ≡ heading ++ entries
+  pub spelled : bytes ≡ header ++ entries

@@ -1,5 +1,5 @@
 -- What a complaint adds.
-use Rattle.std.specs.Prelude.{◌≡◌, ◌⊎◌, ℕ, List, ◌++◌, Option}
+use Rattle.std.specs.Prelude.{◌≡◌, ◌⊎◌, ℕ, List, Option}
 use Rattle.std.specs.Option.{option_map}
 use Rattle.alg_host.specs.Host.{Told, IsPrefix, HasRisen, adds_complained}
 

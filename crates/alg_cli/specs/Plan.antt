@@ -1,14 +1,14 @@
 -- The events of a run, in order, and how far it came.
 use Rattle.std.specs.Prelude.{◌≡◌, ℕ, ◌+◌, List, [], ◌∷◌, ◌++◌, ◌⊎◌, Bool, true, false, Option, None, Some, is_some, Result, OnOk}
-use Rattle.std.specs.List.{flat_map}
 use Rattle.alg_law.specs.Declarations.{Declaration}
 use Rattle.alg_kernel.specs.Claims.{Claim}
 use Rattle.alg_host.specs.Host.{Told, IsPrefix, Creates}
 use Rattle.alg_parse.specs.Told as parsed
 use Rattle.alg_cli.specs.Effects.{Effects, nothing, asks, creates, appends, says, hands_over, and_then, Does}
 use Rattle.alg_cli.specs.Verdict.{Verdict, Closed, Failed}
-use Rattle.alg_cli.specs.Report.{Goal, Finding, of_goal, of_fault, verdict_text, error_text, last_line_of, findings_of}
-use Rattle.alg_cli.specs.Certificate.{IsEntry, heading, claim_in, goals_in}
+use Rattle.alg_cli.specs.Report.{Finding, of_goal, of_fault, verdict_text, error_text, last_line_of, findings_of}
+use Rattle.alg_cli.specs.Certificate.{IsEntry, claim_in, goals_in}
+use Rattle.alg_certificate.specs.Grammar.{header}
 
 -- what a run does to the host
 pub data Event : Type 0 where
@@ -82,7 +82,7 @@ events_from certified shared number (f ∷ fs) = events_at certified shared numb
 
 abbrev pub start_of : Option (List ℕ) → List Event
 start_of None = []
-start_of (Some path) = Starts path ∷ Appends heading ∷ []
+start_of (Some path) = Starts path ∷ Appends header ∷ []
 
 abbrev pub report_plan : Bool → List Declaration → List Finding → List Event
 report_plan certified shared fs = events_from certified shared 1 fs ++ Says (last_line_of fs) ∷ []

@@ -1,5 +1,5 @@
 -- What the top call does, by its answer.
-use Rattle.std.specs.Prelude.{◌≡◌, ◌≤◌, ◌<◌, ◌^◌, ◌⊎◌, ◌↔◌, ⊤, ℕ, List, [], ◌∷◌, ◌++◌, length, Option, None, Some, Bool, true, false, if◌then◌else◌, IsTrue, codes}
+use Rattle.std.specs.Prelude.{◌≡◌, ◌≤◌, ◌<◌, ◌⊎◌, ◌↔◌, ⊤, ℕ, List, [], ◌∷◌, length, Option, None, Some, Bool, true, false, if◌then◌else◌, IsTrue, codes}
 use Rattle.std.specs.List.{flat_map}
 use Rattle.std.specs.Str.{IsUtf8}
 use Rattle.alg_law.specs.Declarations.{Declaration}
@@ -9,8 +9,8 @@ use Rattle.alg_parse.specs.Told as parsed
 use Rattle.alg_parse.specs.FileTrees.{Tells}
 use Rattle.alg_words.specs.Jobs.{Job, Usage, Prove, Check}
 use Rattle.alg_cli.specs.Complaining.{Complains}
-use Rattle.alg_cli.specs.Effects.{Effects, nothing, asks, and_then, after}
-use Rattle.alg_cli.specs.Verdict.{Verdict, Closed, Failed}
+use Rattle.alg_cli.specs.Effects.{Effects, nothing, asks, after}
+use Rattle.alg_cli.specs.Verdict.{Closed, Failed}
 use Rattle.alg_cli.specs.Report.{Finding, of_goal, of_fault, report_of, findings_of, IsAllClosed}
 use Rattle.alg_cli.specs.Certificate.{claim_in, IsCertificate}
 use Rattle.alg_cli.specs.Plan.{AreWhole, Reached, plan_of}

@@ -12,6 +12,3 @@ mod work;
 pub use alg_host::{Failed, Host, LoadFault, MemoryHost, RealHost};
 pub use program::{Extensions, run};
 pub use status::Status;
-
-#[cfg(test)]
-mod tests;

@@ -7,7 +7,7 @@ ghost use Rattle.alg_parse.specs.FileTrees.{IsCommandIn};
 ghost use Rattle.alg_goals.specs.Goals.{IsDeclarableIn};
 ghost use Rattle.alg_cli.specs.Seen.{told_seen, seen_of};
 ghost use Rattle.alg_cli.specs.Report.{findings_at, findings_of, tally_of, tally_text, total_of, verdict_text, error_text, IsAllClosed};
-ghost use Rattle.alg_cli.specs.Certificate.{heading};
+ghost use Rattle.alg_certificate.specs.Grammar.{header};
 ghost use Rattle.alg_cli.specs.Entry.{verdict_in, with_verdict, with_error, plus, next_goal, IsEntryFor, HasEntry, MayAppend, MayNumber, events_of_proof, events_of_fate};
 ghost use Rattle.alg_cli.specs.Plan.{Did, Starts, Appends, HandsOver, Says, certifies, numbered, events_from, start_of, plan_of};
 ghost use Rattle.alg_cli.specs.Work.{DidText};
@@ -277,7 +277,7 @@ fn do_commands<H: Host>(
 }
 
 fn start_file<H: Host>(alloc: Global, path: &str, host: &mut H) -> Result<(), Stop>
-    ensures told { Did (H.told host.old) (H.told host.new) (Starts path.now ∷ Appends heading ∷ []) result }
+    ensures told { Did (H.told host.old) (H.told host.new) (Starts path.now ∷ Appends header ∷ []) result }
     ensures made { OnOk result (IsTrue (H.made host.new)) }
     ensures faults { CountsFaults (Err Stop.HostFailed) result (H.faults host.old) (H.faults host.new) (H.complaint_faults host.old) (H.complaint_faults host.new) }
 {

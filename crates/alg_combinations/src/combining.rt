@@ -1,4 +1,4 @@
-ghost use Rattle.std.specs.Prelude.{◌≡◌, ◌+◌, ◌*◌, ◌<◌, ◌++◌, length, [], ◌∷◌, All, reverse, IfOk, option_map};
+ghost use Rattle.std.specs.Prelude.{◌≡◌, ◌+◌, ◌*◌, ◌<◌, ◌++◌, length, All, reverse, IfOk, option_map};
 ghost use Rattle.alg_expr.specs.Arena.{Extends};
 ghost use Rattle.alg_terms.specs.declared.sorts.Sort as sorts;
 ghost use Rattle.alg_syntax.specs.Nodes.{tree_at};
@@ -11,7 +11,7 @@ ghost use Rattle.alg_combinations.specs.Combined.{named_part, combined};
 ghost use Rattle.alg_combinations.specs.Combining as steps;
 ghost use Rattle.alg_combinations.specs.Combining.{left_of, JobsIn, jobs_size, leaf_of, with_leaf};
 
-use alg_elaborate::{build, combines, is_marked};
+use alg_elaborate::{build, combines, is_proof};
 use alg_expr::{Arena, Items, Memory, Sort};
 use alg_law::{Combo, ComboStep};
 use alg_names::{Meaning, Scope};
@@ -62,13 +62,13 @@ fn plan<'a>(
     scope: &Scope,
     proofs: &[bool],
     jobs: &mut Vec<Job>,
-    kind: Sort,
+    sort: Sort,
     id: usize,
 ) -> Result<Option<Leaf>, Memory>
     requires here { id < length nodes.now }
     requires jobs { JobsIn (length nodes.now) (reverse jobs.old.items) }
-    requires marked { proofs.now ≡ proofs_in scope.now nodes.now }
-    ensures exact { IfOk result (λ o. combined scope.now kind (meant (tree_at nodes.now id)) ++ left_of scope.now kind nodes.now (reverse jobs.old.items) ≡ with_leaf scope.now kind (meant (tree_at nodes.now id)) o (left_of scope.now kind nodes.now (reverse jobs.new.items))) }
+    requires found { proofs.now ≡ proofs_in scope.now nodes.now }
+    ensures exact { IfOk result (λ o. combined scope.now sort (meant (tree_at nodes.now id)) ++ left_of scope.now sort nodes.now (reverse jobs.old.items) ≡ with_leaf scope.now sort (meant (tree_at nodes.now id)) o (left_of scope.now sort nodes.now (reverse jobs.new.items))) }
     ensures within { IfOk result (λ _. JobsIn (length nodes.now) (reverse jobs.new.items)) }
     ensures smaller { IfOk result (λ _. jobs_size nodes.now (reverse jobs.new.items) < 2 * size (tree_at nodes.now id) + jobs_size nodes.now (reverse jobs.old.items)) }
 {
@@ -79,7 +79,7 @@ fn plan<'a>(
             Ok(None)
         }
         Node::Minus(a) => {
-            if !is_marked(nodes, scope, proofs, *a) {
+            if !is_proof(nodes, scope, proofs, *a) {
                 return Ok(Some(Leaf::Expression));
             }
             jobs.push(Job::Negate)?;
@@ -87,8 +87,8 @@ fn plan<'a>(
             Ok(None)
         }
         Node::Binary(operator, a, b) => {
-            let left = is_marked(nodes, scope, proofs, *a);
-            let right = is_marked(nodes, scope, proofs, *b);
+            let left = is_proof(nodes, scope, proofs, *a);
+            let right = is_proof(nodes, scope, proofs, *b);
             if !combines(*operator, left, right) {
                 return Ok(Some(Leaf::Expression));
             }
@@ -108,22 +108,22 @@ fn leaf_step<'a>(
     arena: &mut Arena,
     nodes: &Nodes<'a>,
     scope: &Scope,
-    kind: Sort,
+    sort: Sort,
     id: usize,
     leaf: Leaf,
 ) -> Result<ComboStep, Memory>
     requires { id < length nodes.now }
     ensures kept { Extends arena.old arena.new }
     ensures here { IfOk result (IsStepIn arena.new) }
-    ensures told { IfOk result (λ c. part_of arena.new c ≡ leaf_of scope.now kind (meant (tree_at nodes.now id)) leaf) }
+    ensures told { IfOk result (λ c. part_of arena.new c ≡ leaf_of scope.now sort (meant (tree_at nodes.now id)) leaf) }
 {
     match leaf {
         Leaf::Hypothesis(number) => Ok(ComboStep::Hyp(number)),
-        Leaf::Expression => Ok(ComboStep::Expr(build(alloc, arena, nodes, scope, kind, id)?)),
+        Leaf::Expression => Ok(ComboStep::Expr(build(alloc, arena, nodes, scope, sort, id)?)),
     }
 }
 
-/// What an expression of the sort `kind` says as a combination of hypotheses. `proofs` says which expressions are
+/// What an expression of the given sort says as a combination of hypotheses. `proofs` says which expressions are
 /// proofs. Without a fault its largest parts without hypotheses are its only expressions.
 pub fn build_combination<'a>(
     alloc: Global,
@@ -131,14 +131,14 @@ pub fn build_combination<'a>(
     nodes: &Nodes<'a>,
     scope: &Scope,
     proofs: &[bool],
-    kind: Sort,
+    sort: Sort,
     id: usize,
 ) -> Result<Combo, Memory>
     requires here { id < length nodes.now }
-    requires marked { proofs.now ≡ proofs_in scope.now nodes.now }
+    requires found { proofs.now ≡ proofs_in scope.now nodes.now }
     ensures kept { Extends arena.old arena.new }
     ensures here { IfOk result (λ c. All (IsStepIn arena.new) c.steps) }
-    ensures told { IfOk result (λ c. parts_of arena.new c ≡ combined scope.now kind (meant (tree_at nodes.now id))) }
+    ensures told { IfOk result (λ c. parts_of arena.new c ≡ combined scope.now sort (meant (tree_at nodes.now id))) }
 {
     let mut jobs: Vec<Job> = Vec::new(alloc);
     let mut steps: Vec<ComboStep> = Vec::new(alloc);
@@ -146,8 +146,8 @@ pub fn build_combination<'a>(
     'combining: while let Some(job) = jobs.pop() {
         match job {
             Job::Down(id) => {
-                if let Some(leaf) = plan(nodes, scope, proofs, &mut jobs, kind, id)? {
-                    let step = leaf_step(alloc, arena, nodes, scope, kind, id, leaf)?;
+                if let Some(leaf) = plan(nodes, scope, proofs, &mut jobs, sort, id)? {
+                    let step = leaf_step(alloc, arena, nodes, scope, sort, id, leaf)?;
                     steps.push(step)?;
                 }
             }

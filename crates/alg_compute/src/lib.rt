@@ -8,6 +8,3 @@ mod sequences;
 
 pub use integers::integer;
 pub use naturals::{divides, natural};
-
-#[cfg(test)]
-mod tests;

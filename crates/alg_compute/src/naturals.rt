@@ -6,7 +6,7 @@ ghost use Rattle.alg_law.specs.Computing.{natural_value, literal_value, least_mu
 use crate::choices::choose;
 use crate::sequences::{factorial, fibonacci};
 use alg_num::gcd;
-use alg_terms::Sym;
+use alg_terms::{GREATEST_LITERAL, Sym};
 
 /// The value of `-`, `/`, `%`, `Nat.gcd`, `Nat.lcm`, `Nat.factorial`, `Nat.choose` or `Nat.fib` on ℕ,
 /// as Lean defines them. `None` where the value is past 2^127 - 1, at any other symbol, and at another
@@ -78,7 +78,7 @@ fn lcm(a: u128, b: u128) -> Option<u128>
 fn limited(number: u128) -> Option<u128>
     ensures { SomeIff result (number < 2 ^ 127) number }
 {
-    if number < 1 << 127 {
+    if number <= GREATEST_LITERAL {
         Some(number)
     } else {
         None

@@ -1,6 +1,6 @@
 -- What an application means, by its name and its arguments.
 use Rattle.std.proofs.Common.{◌≡◌, ℕ, refl, sym, ap, ◌∙◌, List, ◌++◌, Bool, Option, Some, None, append_assoc}
-use Rattle.std.specs.Prelude.{⊤, ◌&&◌}
+use Rattle.std.specs.Prelude.{◌&&◌}
 use Rattle.alg_terms.specs.declared.sorts.Sort.{Sort}
 use Rattle.alg_names.specs.declared.meanings.Meaning.{Meaning}
 use Rattle.alg_names.specs.declared.scope.Scope.{Scope}
@@ -11,7 +11,7 @@ use Rattle.alg_elaborate.specs.Combinations.{any_proof}
 use Rattle.alg_elaborate.specs.Meanings.{argument_sorts}
 use Rattle.alg_elaborate.specs.Faults.{first, when, faults, faults_of_each, applied_faults, miscombines}
 use Rattle.alg_syntax.specs.Expressions.{Tree, number, name, group, ascribed, minus, inverse, binary, apply}
-use Rattle.alg_elaborate.specs.Raw.{Raw, Raws, literal, applied, none, more, count, meant, arguments, applied_at, head_of, IsApply}
+use Rattle.alg_elaborate.specs.Raw.{literal, applied, none, count, meant, arguments, applied_at, head_of, IsApply}
 
 applied_meant : (t : Tree) → IsApply t → meant t ≡ applied_at (head_of t) (arguments t none)
 applied_meant (number f n) h = absurd h

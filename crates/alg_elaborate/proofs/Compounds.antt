@@ -1,5 +1,5 @@
 -- What a call of the arena makes of a symbol.
-use Rattle.std.proofs.Common.{◌≡◌, ℕ, refl, sym, ap, ap₂, ◌∙◌, subst, suc, List, [], ◌∷◌, length, map, Bool, true, false}
+use Rattle.std.proofs.Common.{◌≡◌, refl, sym, ap, ◌∙◌, subst, suc, List, [], ◌∷◌, length, map, true, false}
 use Rattle.std.specs.Prelude.{◌&&◌, Result, Ok, Err, IfOk}
 use Rattle.alg_terms.specs.declared.sorts.Sort.{Sort}
 use Rattle.alg_terms.specs.declared.symbols.Sym.{Sym}

@@ -1,5 +1,5 @@
 -- The last argument of an application.
-use Rattle.std.proofs.Common.{◌≡◌, ℕ, zero, suc, ◌+◌, ◌-◌, ◌≤◌, ◌<◌, refl, sym, ap, subst, ◌∙◌, arith, List, [], ◌∷◌, ◌++◌, length, reverse, take, Bool, Option, Some, None, append_assoc, append-nil}
+use Rattle.std.proofs.Common.{◌≡◌, ℕ, zero, suc, ◌+◌, ◌≤◌, ◌<◌, refl, sym, ap, subst, ◌∙◌, arith, List, [], ◌∷◌, ◌++◌, length, reverse, take, Bool, Some, None, append_assoc, append-nil}
 use Rattle.std.specs.Prelude.{slice_get}
 use Rattle.std.proofs.lemmas.List.{reverse-append}
 use Rattle.std.proofs.lemmas.Option.{none-some}
@@ -7,10 +7,9 @@ use Rattle.alg_terms.specs.declared.sorts.Sort.{Sort}
 use Rattle.alg_syntax.specs.Expressions.{Tree, apply}
 use Rattle.alg_syntax.specs.Nodes.{tree_at}
 use Rattle.alg_names.specs.declared.scope.Scope.{Scope}
-use Rattle.alg_elaborate.specs.declared.causes.Cause.{Cause}
 use Rattle.alg_elaborate.specs.declared.faults.Task.{Task}
 use Rattle.alg_elaborate.specs.declared.faults.Task.TheVariants as task
-use Rattle.alg_elaborate.specs.Raw.{Raw, Raws, none, more, count, meant, arguments, size}
+use Rattle.alg_elaborate.specs.Raw.{Raws, none, more, count, meant, arguments}
 use Rattle.alg_elaborate.specs.Faults.{faults, faults_of_each}
 use Rattle.alg_elaborate.specs.Tasks.{task_faults, faults_of_all, TaskIn, TasksIn, sorts_for}
 use Rattle.alg_elaborate.proofs.SpineLemmas.{count_apply, joined, arguments_joined}
@@ -49,14 +48,14 @@ none_there (x ∷ xs) (suc m) n l h e = none_there xs m (suc m) (omega arith) (o
 two_pushed : (items one two : List Task) (l a : Task) → one ≡ items ++ l ∷ [] → two ≡ one ++ a ∷ [] → reverse two ≡ a ∷ l ∷ reverse items
 two_pushed items one two l a e f = ap reverse f ∙ (reverse-append one (a ∷ []) ∙ ap (λ xs. a ∷ xs) (ap reverse e ∙ reverse-append items (l ∷ [])))
 
-pub last_same : (s : Scope) (c : Bool) (ts : List Tree) (g : Sort) (h m n i a b : ℕ) (k : Sort) (items one two : List Task) → TaskIn s ts (task.Arguments g h n i) → tree_at ts i ≡ apply (tree_at ts a) (tree_at ts b) → m + 1 ≡ n → slice_get (sorts_for s ts g h) m ≡ Some k → one ≡ items ++ task.Look k b ∷ [] → two ≡ one ++ task.Arguments g h m a ∷ [] → faults_of_all s c ts (reverse two) ≡ task_faults s c ts (task.Arguments g h n i) ++ faults_of_all s c ts (reverse items)
+pub last_same : (s : Scope) (c : Bool) (ts : List Tree) (g : Sort) (h m n i a b : ℕ) (k : Sort) (items one two : List Task) → TaskIn s ts (task.Arguments g h n i) → tree_at ts i ≡ apply (tree_at ts a) (tree_at ts b) → m + 1 ≡ n → slice_get (sorts_for s ts g h) m ≡ Some k → one ≡ items ++ task.Expression k b ∷ [] → two ≡ one ++ task.Arguments g h m a ∷ [] → faults_of_all s c ts (reverse two) ≡ task_faults s c ts (task.Arguments g h n i) ++ faults_of_all s c ts (reverse items)
 last_same s c ts g h m n i a b k items one two w e l x p q =
     ap (faults_of_all s c ts) (two_pushed items one two _ _ p q)
     ∙ (sym (append_assoc (task_faults s c ts (task.Arguments g h m a)) (faults s c k (meant (tree_at ts b))) (faults_of_all s c ts (reverse items)))
     ∙ ap (λ xs. xs ++ faults_of_all s c ts (reverse items)) (sym (last_faults s c (tree_at ts i) (tree_at ts a) (tree_at ts b) m n (sorts_for s ts g h) k e w.2 l x)))
 
-pub last_in : (s : Scope) (ts : List Tree) (g : Sort) (h m n i a b : ℕ) (k : Sort) (items one two : List Task) → TaskIn s ts (task.Arguments g h n i) → a < i → b < i → tree_at ts i ≡ apply (tree_at ts a) (tree_at ts b) → m + 1 ≡ n → TasksIn s ts (reverse items) → one ≡ items ++ task.Look k b ∷ [] → two ≡ one ++ task.Arguments g h m a ∷ [] → TasksIn s ts (reverse two)
+pub last_in : (s : Scope) (ts : List Tree) (g : Sort) (h m n i a b : ℕ) (k : Sort) (items one two : List Task) → TaskIn s ts (task.Arguments g h n i) → a < i → b < i → tree_at ts i ≡ apply (tree_at ts a) (tree_at ts b) → m + 1 ≡ n → TasksIn s ts (reverse items) → one ≡ items ++ task.Expression k b ∷ [] → two ≡ one ++ task.Arguments g h m a ∷ [] → TasksIn s ts (reverse two)
 last_in s ts g h m n i a b k items one two w la lb e l u p q =
     let i_in = w.0 in let h_in = w.1 in let n_is = w.2 in let n_in = w.3 in
     let c = count_apply (tree_at ts i) (tree_at ts a) (tree_at ts b) e in
-    subst (TasksIn s ts) (sym (two_pushed items one two (task.Look k b) (task.Arguments g h m a) p q)) ((omega arith, h_in, omega arith, omega arith), (omega arith, u))
+    subst (TasksIn s ts) (sym (two_pushed items one two (task.Expression k b) (task.Arguments g h m a) p q)) ((omega arith, h_in, omega arith, omega arith), (omega arith, u))

@@ -1,5 +1,5 @@
 -- The last argument of an application, as a job.
-use Rattle.std.proofs.Common.{◌≡◌, ℕ, zero, suc, ◌+◌, ◌-◌, ◌≤◌, ◌<◌, refl, sym, ap, subst, ◌∙◌, arith, List, [], ◌∷◌, ◌++◌, length, reverse, take, Option, Some, None, append_assoc, append-nil}
+use Rattle.std.proofs.Common.{◌≡◌, ℕ, suc, ◌+◌, ◌<◌, refl, sym, ap, subst, ◌∙◌, arith, List, [], ◌∷◌, ◌++◌, length, reverse, take, Some, append_assoc}
 use Rattle.std.specs.Prelude.{slice_get}
 use Rattle.std.proofs.lemmas.List.{reverse-append}
 use Rattle.alg_terms.specs.declared.sorts.Sort.{Sort}
@@ -9,7 +9,7 @@ use Rattle.alg_syntax.specs.Nodes.{tree_at}
 use Rattle.alg_names.specs.declared.scope.Scope.{Scope}
 use Rattle.alg_elaborate.specs.declared.building.Job.{Job}
 use Rattle.alg_elaborate.specs.declared.building.Job.TheVariants as job
-use Rattle.alg_elaborate.specs.Raw.{Raw, Raws, none, more, count, meant, arguments}
+use Rattle.alg_elaborate.specs.Raw.{Raws, none, more, count, meant, arguments}
 use Rattle.alg_elaborate.specs.Tasks.{sorts_for}
 use Rattle.alg_elaborate.specs.TypedTrees.{typed, typed_each}
 use Rattle.alg_elaborate.specs.Jobs.{done, JobIn, JobsIn, Enough}

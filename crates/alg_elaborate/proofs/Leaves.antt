@@ -4,10 +4,10 @@ use Rattle.std.proofs.lemmas.List.{reverse-append}
 use Rattle.alg_syntax.specs.Nodes.{tree_at}
 use Rattle.alg_elaborate.specs.declared.regions.Part.{Part}
 use Rattle.alg_elaborate.specs.declared.regions.Part.TheVariants as part
-use Rattle.alg_elaborate.specs.RegionParts.{part_leaves, parts_leaves}
+use Rattle.alg_elaborate.specs.RegionParts.{parts_leaves}
 use Rattle.alg_syntax.specs.Expressions.{Tree, apply}
 use Rattle.alg_names.specs.declared.scope.Scope.{Scope}
-use Rattle.alg_elaborate.specs.Raw.{Raw, Raws, none, more, meant, arguments}
+use Rattle.alg_elaborate.specs.Raw.{Raws, none, more, meant, arguments}
 use Rattle.alg_elaborate.specs.Regions.{leaves, leaves_of_each}
 use Rattle.alg_elaborate.proofs.SpineLemmas.{joined, arguments_joined}
 

@@ -4,7 +4,7 @@ pub mod Compounds
 pub mod LastArguments
 pub mod LastJobs
 pub mod Leaves
-pub mod Marked
+pub mod ProofTables
 pub mod Sides
 pub mod Sorts
 pub mod SpineLemmas

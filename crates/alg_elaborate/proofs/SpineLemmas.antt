@@ -1,7 +1,7 @@
 -- Applications, by their spine.
-use Rattle.std.proofs.Common.{◌≡◌, ℕ, zero, suc, ◌+◌, ◌≤◌, ◌<◌, refl, sym, ap, ◌∙◌, arith, List, [], ◌∷◌, Option, Some, None}
+use Rattle.std.proofs.Common.{◌≡◌, suc, ◌+◌, refl, sym, ap, ◌∙◌, arith}
 use Rattle.alg_syntax.specs.Expressions.{Tree, number, name, group, ascribed, minus, inverse, binary, apply}
-use Rattle.alg_elaborate.specs.Raw.{Raw, Raws, none, more, count, meant, arguments, head_of, size}
+use Rattle.alg_elaborate.specs.Raw.{Raws, none, more, count, meant, arguments, head_of}
 
 pub count_arguments : (a : Tree) (us : Raws) → count (arguments a us) ≡ count us + count (arguments a none)
 count_arguments (number f n) us = omega arith

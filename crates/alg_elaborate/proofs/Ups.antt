@@ -1,5 +1,5 @@
 -- A symbol takes the trees of its parts.
-use Rattle.std.proofs.Common.{◌≡◌, ℕ, zero, suc, ◌+◌, ◌≤◌, ◌<◌, refl, sym, ap, subst, ◌∙◌, arith, List, [], ◌∷◌, ◌++◌, length, reverse, take, drop, Option, Some, None, append_assoc, append-nil, Bool, true, false}
+use Rattle.std.proofs.Common.{◌≡◌, ℕ, refl, sym, ap, ◌∙◌, arith, List, [], ◌∷◌, ◌++◌, length, reverse, take, Option, Some, None, append_assoc, true, false}
 use Rattle.std.specs.Prelude.{nat_eq}
 use Rattle.std.proofs.lemmas.Bool.Decides.{nat_tests}
 use Rattle.std.proofs.lemmas.List.{take_at, drop_at, reverse-append}
@@ -13,7 +13,7 @@ use Rattle.alg_names.specs.declared.scope.Scope.{Scope}
 use Rattle.alg_names.specs.InForce.{meaning}
 use Rattle.alg_elaborate.specs.declared.building.Job.{Job}
 use Rattle.alg_elaborate.specs.declared.building.Job.TheVariants as job
-use Rattle.alg_elaborate.specs.Raw.{Raw, Raws, none, more, meant, arguments, head_of, name_in, count, applied, IsApply}
+use Rattle.alg_elaborate.specs.Raw.{none, meant, arguments, head_of, name_in, count, IsApply}
 use Rattle.alg_elaborate.specs.Meanings.{argument_sorts, symbol_of}
 use Rattle.alg_elaborate.specs.Tasks.{sorts_for}
 use Rattle.alg_elaborate.specs.TypedTrees.{compound, typed, typed_each, tree_where}

@@ -1,5 +1,5 @@
 -- Which expressions are proofs, where hypotheses are combined.
-use Rattle.std.specs.Prelude.{List, Bool, true, false, not, ◌&&◌, ◌||◌}
+use Rattle.std.specs.Prelude.{Bool, true, false, not, ◌&&◌, ◌||◌}
 use Rattle.alg_syntax.specs.declared.signs.Operator.{Operator}
 use Rattle.alg_syntax.specs.declared.signs.Operator.TheVariants.{Add, Sub, Mul, Div, Mod, Smul, Pow}
 use Rattle.alg_names.specs.declared.scope.Scope.{Scope}

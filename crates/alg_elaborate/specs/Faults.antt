@@ -8,7 +8,6 @@ use Rattle.alg_terms.specs.declared.relations.Rel.TheVariants.{Eq}
 use Rattle.alg_terms.specs.Order.{sort_same, rel_same}
 use Rattle.alg_terms.specs.Symbols.{is_integral}
 use Rattle.alg_law.specs.WellSorted.{literal_class}
-use Rattle.alg_syntax.specs.declared.signs.Operator.{Operator}
 use Rattle.alg_syntax.specs.declared.signs.Operator.TheVariants.{Add, Sub, Mul, Div, Mod, Smul, Pow}
 use Rattle.alg_names.specs.declared.meanings.Meaning.{Meaning}
 use Rattle.alg_names.specs.declared.meanings.Meaning.TheVariants.{SortName, Variable, Function, Shared, Hypothesis}
@@ -19,7 +18,8 @@ use Rattle.alg_elaborate.specs.declared.causes.Cause.TheVariants.{UnknownName, S
 use Rattle.alg_elaborate.specs.Raw.{Raw, Raws, literal, named, negation, reciprocal, operation, applied, of_sort, none, more, count}
 use Rattle.alg_elaborate.specs.Meanings.{type_of, argument_sorts}
 use Rattle.alg_elaborate.specs.Regions.{exponent_sort, sort_or}
-use Rattle.alg_elaborate.specs.Operations.{difference_symbol, quotient_symbol, power_symbol, multiple_symbol}
+use Rattle.alg_law.specs.Combinations.{difference_of, quotient_of}
+use Rattle.alg_elaborate.specs.Operations.{power_of, multiple_of}
 use Rattle.alg_elaborate.specs.Combinations.{misuses}
 
 abbrev pub when : Bool → Cause → List Cause
@@ -88,15 +88,15 @@ abbrev mutual
   faults s c k (negation a) = lacks s sym.Neg k ++ faults s c k a
   faults s c k (reciprocal a) = lacks s sym.Inv k ++ (miscombines s c (reciprocal a) ++ faults s c k a)
   faults s c k (operation Add a b) = lacks s sym.Add k ++ (miscombines s c (operation Add a b) ++ (faults s c k a ++ faults s c k b))
-  faults s c k (operation Sub a b) = lacks s (difference_symbol k) k ++ (miscombines s c (operation Sub a b) ++ (faults s c k a ++ faults s c k b))
+  faults s c k (operation Sub a b) = lacks s (difference_of k) k ++ (miscombines s c (operation Sub a b) ++ (faults s c k a ++ faults s c k b))
   faults s c k (operation Mul a b) = lacks s sym.Mul k ++ (miscombines s c (operation Mul a b) ++ (faults s c k a ++ faults s c k b))
-  faults s c k (operation Div a b) = lacks s (quotient_symbol k) k ++ (miscombines s c (operation Div a b) ++ (faults s c k a ++ faults s c k b))
+  faults s c k (operation Div a b) = lacks s (quotient_of k) k ++ (miscombines s c (operation Div a b) ++ (faults s c k a ++ faults s c k b))
   faults s c k (operation Mod a b) = lacks s sym.Mod k ++ (miscombines s c (operation Mod a b) ++ (faults s c k a ++ faults s c k b))
   faults s c k (operation Smul e a) =
-      lacks_by s (exponent_sort s e) (multiple_symbol (exponent_sort s e)) k
+      lacks_by s (exponent_sort s e) (multiple_of (exponent_sort s e)) k
       ++ (miscombines s c (operation Smul e a) ++ ((not_integral (exponent_sort s e) ++ faults s c (exponent_sort s e) e) ++ faults s c k a))
   faults s c k (operation Pow a e) =
-      lacks_by s (exponent_sort s e) (power_symbol (exponent_sort s e)) k
+      lacks_by s (exponent_sort s e) (power_of (exponent_sort s e)) k
       ++ (miscombines s c (operation Pow a e) ++ (faults s c k a ++ (not_integral (exponent_sort s e) ++ faults s c (exponent_sort s e) e)))
   faults s c k (applied f us) = applied_faults s k (meaning s f) (count us) ++ (miscombines s c (applied f us) ++ faults_of_each s c us (argument_sorts k (meaning s f)))
   faults s c k (of_sort a x) = sort_name_faults k (meaning s x) ++ (miscombines s c (of_sort a x) ++ faults s c (sort_or k (type_of (meaning s x))) a)

@@ -1,5 +1,5 @@
--- The parts of a region that wait to be looked at, from left to right.
-use Rattle.std.specs.Prelude.{ℕ, suc, ◌+◌, ◌*◌, ◌<◌, List, [], ◌∷◌, ◌++◌, length, ⊤}
+-- The parts of a region that wait to be visited, from left to right.
+use Rattle.std.specs.Prelude.{ℕ, suc, ◌+◌, ◌*◌, ◌<◌, List, [], ◌∷◌, ◌++◌, ⊤}
 use Rattle.alg_syntax.specs.Expressions.{Tree}
 use Rattle.alg_syntax.specs.Nodes.{tree_at}
 use Rattle.alg_names.specs.declared.scope.Scope.{Scope}

@@ -1,4 +1,4 @@
--- What a look down an application finds.
+-- What a walk down an application finds.
 use Rattle.std.specs.Prelude.{◌≡◌, ℕ, ◌<◌, List, length, Option, Some, None}
 use Rattle.alg_syntax.specs.Expressions.{Tree}
 use Rattle.alg_syntax.specs.Nodes.{tree_at}

@@ -1,11 +1,10 @@
 -- The typed tree of an expression without a fault.
-use Rattle.std.specs.Prelude.{ℕ, List, [], ◌∷◌, length, map, Bool, true, false, ◌&&◌, nat_eq, nat_lt, ◌^◌, Option, Some, None}
+use Rattle.std.specs.Prelude.{List, [], ◌∷◌, length, map, Bool, true, false, ◌&&◌, nat_eq, nat_lt, ◌^◌, Option, Some, None}
 use Rattle.alg_terms.specs.declared.sorts.Sort.{Sort}
 use Rattle.alg_terms.specs.declared.symbols.Sym.{Sym}
 use Rattle.alg_terms.specs.declared.symbols.Sym.TheVariants as sym
 use Rattle.alg_terms.specs.Tree.{Tree, Lit, Var, App, of_list, sort_of_tree}
 use Rattle.alg_expr.specs.Applying.{arity_fits, sorts_fit}
-use Rattle.alg_syntax.specs.declared.signs.Operator.{Operator}
 use Rattle.alg_syntax.specs.declared.signs.Operator.TheVariants.{Add, Sub, Mul, Div, Mod, Smul, Pow}
 use Rattle.alg_names.specs.declared.meanings.Meaning.{Meaning}
 use Rattle.alg_names.specs.declared.meanings.Meaning.TheVariants.{SortName, Variable, Function, Shared, Hypothesis}
@@ -14,7 +13,8 @@ use Rattle.alg_names.specs.InForce.{meaning}
 use Rattle.alg_elaborate.specs.Raw.{Raw, Raws, literal, named, negation, reciprocal, operation, applied, of_sort, none, more, count}
 use Rattle.alg_elaborate.specs.Meanings.{type_of, argument_sorts, symbol_of}
 use Rattle.alg_elaborate.specs.Regions.{exponent_sort, sort_or}
-use Rattle.alg_elaborate.specs.Operations.{difference_symbol, quotient_symbol, power_symbol, multiple_symbol}
+use Rattle.alg_law.specs.Combinations.{difference_of, quotient_of}
+use Rattle.alg_elaborate.specs.Operations.{power_of, multiple_of}
 
 abbrev pub tree_where : Bool → Tree → Sort → Tree
 tree_where true t k = t
@@ -40,12 +40,12 @@ abbrev mutual
   typed s k (negation a) = compound sym.Neg k (typed s k a ∷ [])
   typed s k (reciprocal a) = compound sym.Inv k (typed s k a ∷ [])
   typed s k (operation Add a b) = compound sym.Add k (typed s k a ∷ typed s k b ∷ [])
-  typed s k (operation Sub a b) = compound (difference_symbol k) k (typed s k a ∷ typed s k b ∷ [])
+  typed s k (operation Sub a b) = compound (difference_of k) k (typed s k a ∷ typed s k b ∷ [])
   typed s k (operation Mul a b) = compound sym.Mul k (typed s k a ∷ typed s k b ∷ [])
-  typed s k (operation Div a b) = compound (quotient_symbol k) k (typed s k a ∷ typed s k b ∷ [])
+  typed s k (operation Div a b) = compound (quotient_of k) k (typed s k a ∷ typed s k b ∷ [])
   typed s k (operation Mod a b) = compound sym.Mod k (typed s k a ∷ typed s k b ∷ [])
-  typed s k (operation Smul e a) = compound (multiple_symbol (exponent_sort s e)) k (typed s (exponent_sort s e) e ∷ typed s k a ∷ [])
-  typed s k (operation Pow a e) = compound (power_symbol (exponent_sort s e)) k (typed s k a ∷ typed s (exponent_sort s e) e ∷ [])
+  typed s k (operation Smul e a) = compound (multiple_of (exponent_sort s e)) k (typed s (exponent_sort s e) e ∷ typed s k a ∷ [])
+  typed s k (operation Pow a e) = compound (power_of (exponent_sort s e)) k (typed s k a ∷ typed s (exponent_sort s e) e ∷ [])
   typed s k (applied f us) =
       tree_where (nat_eq (count us) (length (argument_sorts k (meaning s f)))) (compound (symbol_of (meaning s f)) k (typed_each s us (argument_sorts k (meaning s f)))) k
   typed s k (of_sort a x) = typed s (sort_or k (type_of (meaning s x))) a

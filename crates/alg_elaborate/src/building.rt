@@ -9,13 +9,14 @@ ghost use Rattle.alg_elaborate.specs.TypedTrees.{compound, typed, typed_name, tr
 ghost use Rattle.alg_elaborate.specs.Jobs.{done, Enough, JobIn, JobsIn, jobs_size, IsSmall, leaf_tree, with_leaf, leaves_in};
 
 use crate::meanings::{argument_sort, arity, symbol_of, type_of};
-use crate::operations::{difference_symbol, multiple_symbol, power_symbol, quotient_symbol};
+use crate::operations::{difference_of, multiple_of, power_of, quotient_of};
 use crate::regions::{exponent_sort, sort_or};
 use crate::spines::{head, meaning_at};
 use alg_expr::{Arena, ExprFault, ExprId, Memory, Sort, Sym};
 use alg_names::{Meaning, Scope};
 use alg_syntax::nodes::{Node, Nodes};
 use alg_syntax::signs::Operator;
+use alg_terms::GREATEST_LITERAL;
 use std::alloc::Global;
 
 // What is left to build: an expression in a region of a sort, a symbol over the trees from a number on, or arguments of
@@ -27,6 +28,13 @@ enum Job {
     Arguments(Sort, usize, usize, usize),
 }
 
+// What trees are built from: the nodes and the names in force.
+#[derive(Clone, Copy)]
+struct Source<'s, 'a> {
+    nodes: &'s Nodes<'a>,
+    scope: &'s Scope,
+}
+
 #[derive(Clone, Copy)]
 enum Leaf {
     Literal(u128),
@@ -35,28 +43,28 @@ enum Leaf {
 
 // A compound tree, where its arguments fit.
 #[tactic(auto, using(crate::proofs::Compounds::made_app, crate::proofs::Compounds::made_arity, crate::proofs::Compounds::made_sorts))]
-fn compound(arena: &mut Arena, sym: Sym, kind: Sort, args: &[ExprId]) -> Result<ExprId, Memory>
+fn compound(arena: &mut Arena, sym: Sym, sort: Sort, args: &[ExprId]) -> Result<ExprId, Memory>
     requires { All (IsIn arena.old) args.now }
-    ensures made { IfOk result (λ e. Imports arena.old arena.new e (compound sym kind (trees_at arena.old args.now))) }
+    ensures made { IfOk result (λ e. Imports arena.old arena.new e (compound sym sort (trees_at arena.old args.now))) }
     ensures failed { OnErr result (arena.new ≡ arena.old) }
 {
-    match arena.app(sym, kind, args) {
+    match arena.app(sym, sort, args) {
         Ok(id) => Ok(id),
         Err(ExprFault::Memory) => Err(Memory),
-        Err(ExprFault::BadArity) => arena.lit(kind, 0),
-        Err(ExprFault::BadSort) => arena.lit(kind, 0),
+        Err(ExprFault::BadArity) => arena.lit(sort, 0),
+        Err(ExprFault::BadSort) => arena.lit(sort, 0),
     }
 }
 
 #[tactic(auto, using(crate::proofs::Compounds::imports))]
-fn add_leaf(arena: &mut Arena, kind: Sort, leaf: Leaf) -> Result<ExprId, Memory>
+fn add_leaf(arena: &mut Arena, sort: Sort, leaf: Leaf) -> Result<ExprId, Memory>
     requires { IsSmall leaf }
-    ensures made { IfOk result (λ e. Imports arena.old arena.new e (leaf_tree kind leaf)) }
+    ensures made { IfOk result (λ e. Imports arena.old arena.new e (leaf_tree sort leaf)) }
     ensures failed { OnErr result (arena.new ≡ arena.old) }
 {
     match leaf {
-        Leaf::Literal(value) => arena.lit(kind, value),
-        Leaf::Variable(decl) => arena.var(decl, kind),
+        Leaf::Literal(value) => arena.lit(sort, value),
+        Leaf::Variable(decl) => arena.var(decl, sort),
     }
 }
 
@@ -64,13 +72,13 @@ fn add_leaf(arena: &mut Arena, kind: Sort, leaf: Leaf) -> Result<ExprId, Memory>
 fn over_one(
     jobs: &mut Vec<Job>,
     sym: Sym,
-    kind: Sort,
+    sort: Sort,
     start: usize,
     part: (Sort, usize),
 ) -> Result<(), Memory>
-    ensures { IfOk result (λ _. reverse jobs.new.items ≡ job.Down part.0 part.1 ∷ job.Up sym kind start ∷ reverse jobs.old.items) }
+    ensures { IfOk result (λ _. reverse jobs.new.items ≡ job.Down part.0 part.1 ∷ job.Up sym sort start ∷ reverse jobs.old.items) }
 {
-    jobs.push(Job::Up(sym, kind, start))?;
+    jobs.push(Job::Up(sym, sort, start))?;
     jobs.push(Job::Down(part.0, part.1))?;
     Ok(())
 }
@@ -79,14 +87,14 @@ fn over_one(
 fn over_two(
     jobs: &mut Vec<Job>,
     sym: Sym,
-    kind: Sort,
+    sort: Sort,
     start: usize,
     left: (Sort, usize),
     right: (Sort, usize),
 ) -> Result<(), Memory>
-    ensures { IfOk result (λ _. reverse jobs.new.items ≡ job.Down left.0 left.1 ∷ job.Down right.0 right.1 ∷ job.Up sym kind start ∷ reverse jobs.old.items) }
+    ensures { IfOk result (λ _. reverse jobs.new.items ≡ job.Down left.0 left.1 ∷ job.Down right.0 right.1 ∷ job.Up sym sort start ∷ reverse jobs.old.items) }
 {
-    jobs.push(Job::Up(sym, kind, start))?;
+    jobs.push(Job::Up(sym, sort, start))?;
     jobs.push(Job::Down(right.0, right.1))?;
     jobs.push(Job::Down(left.0, left.1))?;
     Ok(())
@@ -96,62 +104,40 @@ fn over_two(
 #[tactic(auto, using(crate::proofs::Ups::up_two))]
 fn plan_operation<'a>(
     alloc: Global,
-    nodes: &Nodes<'a>,
-    scope: &Scope,
+    source: &Source<'_, 'a>,
     jobs: &mut Vec<Job>,
     start: usize,
-    kind: Sort,
+    sort: Sort,
     operator: Operator,
     parts: (usize, usize),
 ) -> Result<(), Memory>
-    requires here { (parts.0 < length nodes.now) × (parts.1 < length nodes.now) }
-    requires jobs { JobsIn scope.now nodes.now (reverse jobs.old.items) }
+    requires here { (parts.0 < length source.now.nodes.now) × (parts.1 < length source.now.nodes.now) }
+    requires jobs { JobsIn source.now.scope.now source.now.nodes.now (reverse jobs.old.items) }
     requires enough { Enough (reverse jobs.old.items) (suc start) }
-    ensures exact { IfOk result (λ _. (vs : List terms.Tree) → length vs ≡ start → done scope.now nodes.now (reverse jobs.old.items) (vs ++ typed scope.now kind (operation operator (meant (tree_at nodes.now parts.0)) (meant (tree_at nodes.now parts.1))) ∷ []) ≡ done scope.now nodes.now (reverse jobs.new.items) vs) }
-    ensures within { IfOk result (λ _. JobsIn scope.now nodes.now (reverse jobs.new.items)) }
+    ensures exact { IfOk result (λ _. (vs : List terms.Tree) → length vs ≡ start → done source.now.scope.now source.now.nodes.now (reverse jobs.old.items) (vs ++ typed source.now.scope.now sort (operation operator (meant (tree_at source.now.nodes.now parts.0)) (meant (tree_at source.now.nodes.now parts.1))) ∷ []) ≡ done source.now.scope.now source.now.nodes.now (reverse jobs.new.items) vs) }
+    ensures within { IfOk result (λ _. JobsIn source.now.scope.now source.now.nodes.now (reverse jobs.new.items)) }
     ensures enough { IfOk result (λ _. Enough (reverse jobs.new.items) start) }
-    ensures smaller { IfOk result (λ _. jobs_size nodes.now (reverse jobs.new.items) < 4 * (size (tree_at nodes.now parts.0) + size (tree_at nodes.now parts.1) + 1) + 2 + jobs_size nodes.now (reverse jobs.old.items)) }
+    ensures smaller { IfOk result (λ _. jobs_size source.now.nodes.now (reverse jobs.new.items) < 4 * (size (tree_at source.now.nodes.now parts.0) + size (tree_at source.now.nodes.now parts.1) + 1) + 2 + jobs_size source.now.nodes.now (reverse jobs.old.items)) }
 {
     let (a, b) = parts;
     match operator {
-        Operator::Add => over_two(jobs, Sym::Add, kind, start, (kind, a), (kind, b)),
-        Operator::Sub => over_two(
-            jobs,
-            difference_symbol(kind),
-            kind,
-            start,
-            (kind, a),
-            (kind, b),
-        ),
-        Operator::Mul => over_two(jobs, Sym::Mul, kind, start, (kind, a), (kind, b)),
-        Operator::Div => over_two(
-            jobs,
-            quotient_symbol(kind),
-            kind,
-            start,
-            (kind, a),
-            (kind, b),
-        ),
-        Operator::Mod => over_two(jobs, Sym::Mod, kind, start, (kind, a), (kind, b)),
+        Operator::Add => over_two(jobs, Sym::Add, sort, start, (sort, a), (sort, b)),
+        Operator::Sub => over_two(jobs, difference_of(sort), sort, start, (sort, a), (sort, b)),
+        Operator::Mul => over_two(jobs, Sym::Mul, sort, start, (sort, a), (sort, b)),
+        Operator::Div => over_two(jobs, quotient_of(sort), sort, start, (sort, a), (sort, b)),
+        Operator::Mod => over_two(jobs, Sym::Mod, sort, start, (sort, a), (sort, b)),
         Operator::Smul => {
-            let left = exponent_sort(alloc, nodes, scope, a)?;
-            over_two(
-                jobs,
-                multiple_symbol(left),
-                kind,
-                start,
-                (left, a),
-                (kind, b),
-            )
+            let left = exponent_sort(alloc, source.nodes, source.scope, a)?;
+            over_two(jobs, multiple_of(left), sort, start, (left, a), (sort, b))
         }
         Operator::Pow => {
-            let exponent = exponent_sort(alloc, nodes, scope, b)?;
+            let exponent = exponent_sort(alloc, source.nodes, source.scope, b)?;
             over_two(
                 jobs,
-                power_symbol(exponent),
-                kind,
+                power_of(exponent),
+                sort,
                 start,
-                (kind, a),
+                (sort, a),
                 (exponent, b),
             )
         }
@@ -161,38 +147,37 @@ fn plan_operation<'a>(
 // An application.
 #[tactic(auto, using(crate::proofs::Ups::up_all, crate::proofs::Ups::typed_whole, crate::proofs::Ups::typed_partial, crate::proofs::Ups::typed_headless))]
 fn plan_applied<'a>(
-    nodes: &Nodes<'a>,
-    scope: &Scope,
+    source: &Source<'_, 'a>,
     jobs: &mut Vec<Job>,
     start: usize,
-    kind: Sort,
+    sort: Sort,
     id: usize,
 ) -> Result<Option<Leaf>, Memory>
-    requires here { (id < length nodes.now) × IsApply (tree_at nodes.now id) }
-    requires jobs { JobsIn scope.now nodes.now (reverse jobs.old.items) }
+    requires here { (id < length source.now.nodes.now) × IsApply (tree_at source.now.nodes.now id) }
+    requires jobs { JobsIn source.now.scope.now source.now.nodes.now (reverse jobs.old.items) }
     requires enough { Enough (reverse jobs.old.items) (suc start) }
-    ensures exact { IfOk result (λ o. (vs : List terms.Tree) → length vs ≡ start → done scope.now nodes.now (reverse jobs.old.items) (vs ++ typed scope.now kind (meant (tree_at nodes.now id)) ∷ []) ≡ done scope.now nodes.now (reverse jobs.new.items) (with_leaf kind o vs)) }
-    ensures within { IfOk result (λ _. JobsIn scope.now nodes.now (reverse jobs.new.items)) }
+    ensures exact { IfOk result (λ o. (vs : List terms.Tree) → length vs ≡ start → done source.now.scope.now source.now.nodes.now (reverse jobs.old.items) (vs ++ typed source.now.scope.now sort (meant (tree_at source.now.nodes.now id)) ∷ []) ≡ done source.now.scope.now source.now.nodes.now (reverse jobs.new.items) (with_leaf sort o vs)) }
+    ensures within { IfOk result (λ _. JobsIn source.now.scope.now source.now.nodes.now (reverse jobs.new.items)) }
     ensures enough { IfOk result (λ o. Enough (reverse jobs.new.items) (start + leaves_in o)) }
     ensures small { IfOk result (λ o. IfSome o IsSmall) }
-    ensures smaller { IfOk result (λ _. jobs_size nodes.now (reverse jobs.new.items) < 4 * size (tree_at nodes.now id) + 2 + jobs_size nodes.now (reverse jobs.old.items)) }
+    ensures smaller { IfOk result (λ _. jobs_size source.now.nodes.now (reverse jobs.new.items) < 4 * size (tree_at source.now.nodes.now id) + 2 + jobs_size source.now.nodes.now (reverse jobs.old.items)) }
 {
-    let (name, count) = head(nodes, id);
+    let (name, count) = head(source.nodes, id);
     let Some(name) = name else {
         return Ok(Some(Leaf::Literal(0)));
     };
-    let stands_for = meaning_at(scope, nodes, name);
-    if count != arity(stands_for, kind) {
+    let stands_for = meaning_at(source.scope, source.nodes, name);
+    if count != arity(stands_for, sort) {
         return Ok(Some(Leaf::Literal(0)));
     }
-    jobs.push(Job::Up(symbol_of(stands_for), kind, start))?;
-    jobs.push(Job::Arguments(kind, name, count, id))?;
+    jobs.push(Job::Up(symbol_of(stands_for), sort, start))?;
+    jobs.push(Job::Arguments(sort, name, count, id))?;
     Ok(None)
 }
 
 // A variable, where the name stands for one.
-fn name_leaf(kind: Sort, meaning: Option<&Meaning>) -> Leaf
-    ensures tree { leaf_tree kind result ≡ typed_name kind (option_map (λ m. m.now) meaning.entry) }
+fn name_leaf(sort: Sort, meaning: Option<&Meaning>) -> Leaf
+    ensures tree { leaf_tree sort result ≡ typed_name sort (option_map (λ m. m.now) meaning.entry) }
     ensures small { IsSmall result }
 {
     match meaning {
@@ -201,11 +186,11 @@ fn name_leaf(kind: Sort, meaning: Option<&Meaning>) -> Leaf
     }
 }
 
-fn literal_leaf(kind: Sort, value: u128) -> Leaf
-    ensures tree { leaf_tree kind result ≡ tree_where (nat_lt value (2 ^ 127)) (terms.Lit kind value) kind }
+fn literal_leaf(sort: Sort, value: u128) -> Leaf
+    ensures tree { leaf_tree sort result ≡ tree_where (nat_lt value (2 ^ 127)) (terms.Lit sort value) sort }
     ensures small { IsSmall result }
 {
-    if value < 1 << 127 {
+    if value <= GREATEST_LITERAL {
         Leaf::Literal(value)
     } else {
         Leaf::Literal(0)
@@ -216,111 +201,110 @@ fn literal_leaf(kind: Sort, value: u128) -> Leaf
 #[tactic(auto, using(crate::proofs::Ups::up_one))]
 fn plan<'a>(
     alloc: Global,
-    nodes: &Nodes<'a>,
-    scope: &Scope,
+    source: &Source<'_, 'a>,
     jobs: &mut Vec<Job>,
     start: usize,
-    kind: Sort,
+    sort: Sort,
     id: usize,
 ) -> Result<Option<Leaf>, Memory>
-    requires here { id < length nodes.now }
-    requires jobs { JobsIn scope.now nodes.now (reverse jobs.old.items) }
+    requires here { id < length source.now.nodes.now }
+    requires jobs { JobsIn source.now.scope.now source.now.nodes.now (reverse jobs.old.items) }
     requires enough { Enough (reverse jobs.old.items) (suc start) }
-    ensures exact { IfOk result (λ o. (vs : List terms.Tree) → length vs ≡ start → done scope.now nodes.now (reverse jobs.old.items) (vs ++ typed scope.now kind (meant (tree_at nodes.now id)) ∷ []) ≡ done scope.now nodes.now (reverse jobs.new.items) (with_leaf kind o vs)) }
-    ensures within { IfOk result (λ _. JobsIn scope.now nodes.now (reverse jobs.new.items)) }
+    ensures exact { IfOk result (λ o. (vs : List terms.Tree) → length vs ≡ start → done source.now.scope.now source.now.nodes.now (reverse jobs.old.items) (vs ++ typed source.now.scope.now sort (meant (tree_at source.now.nodes.now id)) ∷ []) ≡ done source.now.scope.now source.now.nodes.now (reverse jobs.new.items) (with_leaf sort o vs)) }
+    ensures within { IfOk result (λ _. JobsIn source.now.scope.now source.now.nodes.now (reverse jobs.new.items)) }
     ensures enough { IfOk result (λ o. Enough (reverse jobs.new.items) (start + leaves_in o)) }
     ensures small { IfOk result (λ o. IfSome o IsSmall) }
-    ensures smaller { IfOk result (λ _. jobs_size nodes.now (reverse jobs.new.items) < 4 * size (tree_at nodes.now id) + 2 + jobs_size nodes.now (reverse jobs.old.items)) }
+    ensures smaller { IfOk result (λ _. jobs_size source.now.nodes.now (reverse jobs.new.items) < 4 * size (tree_at source.now.nodes.now id) + 2 + jobs_size source.now.nodes.now (reverse jobs.old.items)) }
 {
-    match nodes.get(id) {
-        Node::Number(_, value) => Ok(Some(literal_leaf(kind, *value))),
-        Node::Name(name) => Ok(Some(name_leaf(kind, scope.meaning(name.text())))),
+    match source.nodes.get(id) {
+        Node::Number(_, value) => Ok(Some(literal_leaf(sort, *value))),
+        Node::Name(name) => Ok(Some(name_leaf(sort, source.scope.meaning(name.text())))),
         Node::Group(_, a) => {
-            jobs.push(Job::Down(kind, *a))?;
+            jobs.push(Job::Down(sort, *a))?;
             Ok(None)
         }
-        Node::Ascribed(_, a, sort) => {
-            let inside = sort_or(kind, type_of(scope.meaning(sort.text())));
+        Node::Ascribed(_, a, name) => {
+            let inside = sort_or(sort, type_of(source.scope.meaning(name.text())));
             jobs.push(Job::Down(inside, *a))?;
             Ok(None)
         }
         Node::Minus(a) => {
-            over_one(jobs, Sym::Neg, kind, start, (kind, *a))?;
+            over_one(jobs, Sym::Neg, sort, start, (sort, *a))?;
             Ok(None)
         }
         Node::Inverse(a) => {
-            over_one(jobs, Sym::Inv, kind, start, (kind, *a))?;
+            over_one(jobs, Sym::Inv, sort, start, (sort, *a))?;
             Ok(None)
         }
         Node::Binary(operator, a, b) => {
-            plan_operation(alloc, nodes, scope, jobs, start, kind, *operator, (*a, *b))?;
+            plan_operation(alloc, source, jobs, start, sort, *operator, (*a, *b))?;
             Ok(None)
         }
-        Node::Apply(_, _) => plan_applied(nodes, scope, jobs, start, kind, id),
+        Node::Apply(_, _) => plan_applied(source, jobs, start, sort, id),
     }
 }
 
 // Puts the last argument behind the others.
 fn last_argument<'a>(
-    nodes: &Nodes<'a>,
-    scope: &Scope,
+    source: &Source<'_, 'a>,
     jobs: &mut Vec<Job>,
-    kind: Sort,
+    sort: Sort,
     name: usize,
     count: usize,
     id: usize,
 ) -> Result<(), Memory>
-    requires jobs { JobsIn scope.now nodes.now (reverse jobs.old.items) }
-    requires job { JobIn scope.now nodes.now (job.Arguments kind name count id) }
-    ensures same { IfOk result (λ _. (vs : List terms.Tree) → done scope.now nodes.now (reverse jobs.new.items) vs ≡ done scope.now nodes.now (job.Arguments kind name count id ∷ reverse jobs.old.items) vs) }
-    ensures within { IfOk result (λ _. JobsIn scope.now nodes.now (reverse jobs.new.items)) }
-    ensures enough { IfOk result (λ _. (m : ℕ) → Enough (job.Arguments kind name count id ∷ reverse jobs.old.items) m → Enough (reverse jobs.new.items) m) }
-    ensures smaller { IfOk result (λ _. jobs_size nodes.now (reverse jobs.new.items) < 4 * size (tree_at nodes.now id) + jobs_size nodes.now (reverse jobs.old.items)) }
+    requires jobs { JobsIn source.now.scope.now source.now.nodes.now (reverse jobs.old.items) }
+    requires job { JobIn source.now.scope.now source.now.nodes.now (job.Arguments sort name count id) }
+    ensures same { IfOk result (λ _. (vs : List terms.Tree) → done source.now.scope.now source.now.nodes.now (reverse jobs.new.items) vs ≡ done source.now.scope.now source.now.nodes.now (job.Arguments sort name count id ∷ reverse jobs.old.items) vs) }
+    ensures within { IfOk result (λ _. JobsIn source.now.scope.now source.now.nodes.now (reverse jobs.new.items)) }
+    ensures enough { IfOk result (λ _. (m : ℕ) → Enough (job.Arguments sort name count id ∷ reverse jobs.old.items) m → Enough (reverse jobs.new.items) m) }
+    ensures smaller { IfOk result (λ _. jobs_size source.now.nodes.now (reverse jobs.new.items) < 4 * size (tree_at source.now.nodes.now id) + jobs_size source.now.nodes.now (reverse jobs.old.items)) }
 {
-    if let Node::Apply(a, b) = nodes.get(id) {
+    if let Node::Apply(a, b) = source.nodes.get(id) {
         let last = count - 1;
-        let stands_for = meaning_at(scope, nodes, name);
-        let Some(sort) = argument_sort(stands_for, kind, last) else {
+        let stands_for = meaning_at(source.scope, source.nodes, name);
+        let Some(argument) = argument_sort(stands_for, sort, last) else {
             return Ok(());
         };
-        jobs.push(Job::Down(sort, *b))?;
-        jobs.push(Job::Arguments(kind, name, last, *a))?;
+        jobs.push(Job::Down(argument, *b))?;
+        jobs.push(Job::Arguments(sort, name, last, *a))?;
     }
     Ok(())
 }
 
-/// Builds the typed tree of an expression in a region of the sort `kind`.
+/// Builds the typed tree of an expression in a region of the given sort.
 pub fn build<'a>(
     alloc: Global,
     arena: &mut Arena,
     nodes: &Nodes<'a>,
     scope: &Scope,
-    kind: Sort,
+    sort: Sort,
     id: usize,
 ) -> Result<ExprId, Memory>
     requires { id < length nodes.now }
     ensures kept { Extends arena.old arena.new }
-    ensures built { IfOk result (λ e. Imports arena.old arena.new e (typed scope.now kind (meant (tree_at nodes.now id)))) }
+    ensures built { IfOk result (λ e. Imports arena.old arena.new e (typed scope.now sort (meant (tree_at nodes.now id)))) }
 {
+    let source = Source { nodes, scope };
     let mut jobs: Vec<Job> = Vec::new(alloc);
     let mut values: Vec<ExprId> = Vec::new(alloc);
-    jobs.push(Job::Down(kind, id))?;
+    jobs.push(Job::Down(sort, id))?;
     'building: while let Some(job) = jobs.pop() {
         match job {
-            Job::Down(kind, id) => {
+            Job::Down(sort, id) => {
                 let start = values.len();
-                if let Some(leaf) = plan(alloc, nodes, scope, &mut jobs, start, kind, id)? {
-                    let made = add_leaf(arena, kind, leaf)?;
+                if let Some(leaf) = plan(alloc, &source, &mut jobs, start, sort, id)? {
+                    let made = add_leaf(arena, sort, leaf)?;
                     values.push(made)?;
                 }
             }
-            Job::Up(sym, kind, start) => {
-                let made = compound(arena, sym, kind, &values[start..])?;
+            Job::Up(sym, sort, start) => {
+                let made = compound(arena, sym, sort, &values[start..])?;
                 values.truncate(start);
                 values.push(made)?;
             }
-            Job::Arguments(kind, name, count, id) => last_argument(
-                nodes, scope, &mut jobs, kind, name, count, id,
+            Job::Arguments(sort, name, count, id) => last_argument(
+                &source, &mut jobs, sort, name, count, id,
             )?,
         }
     }

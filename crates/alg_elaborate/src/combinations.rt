@@ -1,4 +1,4 @@
-ghost use Rattle.std.specs.Prelude.{◌≡◌, ◌<◌, ◌≤◌, length, take, true, IfOk};
+ghost use Rattle.std.specs.Prelude.{◌≡◌, ◌<◌, ◌≤◌, length, take, IfOk};
 ghost use Rattle.alg_syntax.specs.Nodes.{tree_at};
 ghost use Rattle.alg_elaborate.specs.Combinations as spec;
 ghost use Rattle.alg_elaborate.specs.Raw.{meant, arguments, none};
@@ -35,7 +35,7 @@ fn part<'a>(nodes: &Nodes<'a>, scope: &Scope, proofs: &[bool], id: usize) -> boo
 }
 
 // Whether the next expression is a proof.
-#[tactic(auto, using(crate::proofs::Marked::not_applied))]
+#[tactic(auto, using(crate::proofs::ProofTables::not_applied))]
 fn next<'a>(nodes: &Nodes<'a>, scope: &Scope, proofs: &[bool]) -> bool
     requires within { length proofs.now < length nodes.now }
     requires same { proofs.now ≡ proofs_in scope.now (take (length proofs.now) nodes.now) }
@@ -55,38 +55,43 @@ fn next<'a>(nodes: &Nodes<'a>, scope: &Scope, proofs: &[bool]) -> bool
 }
 
 /// Which expressions are proofs, by their numbers.
-pub fn mark_proofs<'a>(alloc: Global, nodes: &Nodes<'a>, scope: &Scope) -> Result<Vec<bool>, Memory>
+pub fn find_proofs<'a>(alloc: Global, nodes: &Nodes<'a>, scope: &Scope) -> Result<Vec<bool>, Memory>
     ensures { IfOk result (λ proofs. proofs.items ≡ proofs_in scope.now nodes.now) }
 {
     let count = nodes.len();
     let mut proofs: Vec<bool> = Vec::new(alloc);
-    'marking: while proofs.len() < count {
+    'finding: while proofs.len() < count {
         let proof = next(nodes, scope, proofs.as_slice());
         proofs.push(proof)?;
     }
     Ok(proofs)
 }
 
-/// Whether an expression is a proof, by the marks of all.
-pub fn is_marked<'a>(nodes: &Nodes<'a>, scope: &Scope, proofs: &[bool], id: usize) -> bool
+/// Whether an expression is a proof, by the table of all.
+pub fn is_proof<'a>(nodes: &Nodes<'a>, scope: &Scope, proofs: &[bool], id: usize) -> bool
     requires here { id < length nodes.now }
-    requires marked { proofs.now ≡ proofs_in scope.now nodes.now }
+    requires found { proofs.now ≡ proofs_in scope.now nodes.now }
     ensures { result ≡ spec.is_proof scope.now (meant (tree_at nodes.now id)) }
 {
     proofs[id]
 }
 
 /// Whether an argument of an application is a proof.
-pub fn any_argument_marked<'a>(nodes: &Nodes<'a>, scope: &Scope, proofs: &[bool], id: usize) -> bool
+pub fn any_argument_is_proof<'a>(
+    nodes: &Nodes<'a>,
+    scope: &Scope,
+    proofs: &[bool],
+    id: usize,
+) -> bool
     requires here { id < length nodes.now }
-    requires marked { proofs.now ≡ proofs_in scope.now nodes.now }
+    requires found { proofs.now ≡ proofs_in scope.now nodes.now }
     ensures { result ≡ spec.any_proof scope.now (arguments (tree_at nodes.now id) none) }
 {
     let mut at = id;
     'down: loop {
         match nodes.get(at) {
             Node::Apply(a, b) => {
-                if is_marked(nodes, scope, proofs, *b) {
+                if is_proof(nodes, scope, proofs, *b) {
                     return true;
                 }
                 at = *a;

@@ -46,8 +46,8 @@ pub fn is_hypothesis(meaning: Option<&Meaning>) -> bool
 
 /// How many arguments a function takes, 0 for what is none.
 #[tactic(auto, using(crate::proofs::Sorts::length_times))]
-pub fn arity(meaning: Option<&Meaning>, kind: Sort) -> usize
-    ensures { result ≡ length (spec.argument_sorts kind (option_map (λ m. m.now) meaning.entry)) }
+pub fn arity(meaning: Option<&Meaning>, sort: Sort) -> usize
+    ensures { result ≡ length (spec.argument_sorts sort (option_map (λ m. m.now) meaning.entry)) }
 {
     match meaning {
         Some(Meaning::Function(_, sorts, _)) => sorts.as_slice().len(),
@@ -56,14 +56,14 @@ pub fn arity(meaning: Option<&Meaning>, kind: Sort) -> usize
     }
 }
 
-/// The sort of a function's argument, where its value has the sort `kind`.
+/// The sort of a function's argument, where its value has the given sort.
 #[tactic(auto, using(crate::proofs::Sorts::get_times, crate::proofs::Sorts::get_past))]
-pub fn argument_sort(meaning: Option<&Meaning>, kind: Sort, index: usize) -> Option<Sort>
-    ensures { result ≡ slice_get (spec.argument_sorts kind (option_map (λ m. m.now) meaning.entry)) index }
+pub fn argument_sort(meaning: Option<&Meaning>, sort: Sort, index: usize) -> Option<Sort>
+    ensures { result ≡ slice_get (spec.argument_sorts sort (option_map (λ m. m.now) meaning.entry)) index }
 {
     match meaning {
         Some(Meaning::Function(_, sorts, _)) => sorts.as_slice().get(index).copied(),
-        Some(Meaning::Shared(_, count)) => { if index < *count { Some(kind) } else { None } }
+        Some(Meaning::Shared(_, count)) => { if index < *count { Some(sort) } else { None } }
         _ => None,
     }
 }

@@ -41,7 +41,7 @@ fn split_arguments<'a>(
 }
 
 // The sort of an application, or its arguments where they are of the same region.
-fn look_applied<'a>(
+fn infer_applied<'a>(
     nodes: &Nodes<'a>,
     scope: &Scope,
     todo: &mut Vec<Part>,
@@ -68,7 +68,7 @@ fn look_applied<'a>(
 }
 
 // The sort of a leaf, or the parts of the same region.
-fn look<'a>(
+fn infer_root<'a>(
     nodes: &Nodes<'a>,
     scope: &Scope,
     todo: &mut Vec<Part>,
@@ -102,7 +102,7 @@ fn look<'a>(
             todo.push(Part::Whole(*a))?;
             Ok(None)
         }
-        Node::Apply(_, _) => look_applied(nodes, scope, todo, id),
+        Node::Apply(_, _) => infer_applied(nodes, scope, todo, id),
     }
 }
 
@@ -121,7 +121,7 @@ pub fn first_known<'a>(
     'leaves: while let Some(part) = todo.pop() {
         match part {
             Part::Whole(at) => {
-                if let Some(sort) = look(nodes, scope, &mut todo, at)? {
+                if let Some(sort) = infer_root(nodes, scope, &mut todo, at)? {
                     return Ok(Some(sort));
                 }
             }

@@ -59,77 +59,77 @@ pub fn statement_sort<'a>(
     Ok(sort_or(Sort::Nat, first_known(alloc, nodes, scope, right)?))
 }
 
-fn relation_fault(scope: &Scope, kind: Sort, relation: Relation) -> Option<Cause>
-    ensures { (rest : List causes.Cause) → first (spec.relation_faults scope.now kind relation ++ rest) ≡ first_or result rest }
+fn relation_fault(scope: &Scope, sort: Sort, relation: Relation) -> Option<Cause>
+    ensures { (rest : List causes.Cause) → first (spec.relation_faults scope.now sort relation ++ rest) ≡ first_or result rest }
 {
-    if scope.relates(relation_of(relation), kind) {
+    if scope.relates(relation_of(relation), sort) {
         None
     } else {
         Some(Cause::NoInstance)
     }
 }
 
-// The first fault of a statement whose sides are of the sort `kind`.
+// The first fault of a statement whose sides are of the given sort.
 #[tactic(auto, using(crate::proofs::Sides::first_joined))]
 fn statement_fault_in<'a>(
     alloc: Global,
     scope: &Scope,
-    kind: Sort,
+    sort: Sort,
     statement: &Statement<'a>,
 ) -> Result<Option<Cause>, Memory>
-    ensures { IfOk result (λ o. o ≡ first (statement_faults_in scope.now kind statement.now)) }
+    ensures { IfOk result (λ o. o ≡ first (statement_faults_in scope.now sort statement.now)) }
 {
-    if let Some(cause) = relation_fault(scope, kind, statement.relation) {
+    if let Some(cause) = relation_fault(scope, sort, statement.relation) {
         return Ok(Some(cause));
     }
     let (left, nodes) = statement.lhs.nodes();
-    if let Some(cause) = first_fault(alloc, nodes, scope, &[], false, kind, left)? {
+    if let Some(cause) = first_fault(alloc, nodes, scope, &[], false, sort, left)? {
         return Ok(Some(cause));
     }
     let (right, nodes) = statement.rhs.nodes();
-    first_fault(alloc, nodes, scope, &[], false, kind, right)
+    first_fault(alloc, nodes, scope, &[], false, sort, right)
 }
 
-fn ordered(relation: Relation, kind: Sort, left: ExprId, right: ExprId) -> Stmt
-    ensures told { (ts : List terms.Tree) → statement_of ts result ≡ spec.ordered (spec.exchanges relation) (spec.relation_of relation) kind (tree_of ts left) (tree_of ts right) }
+fn ordered(relation: Relation, sort: Sort, left: ExprId, right: ExprId) -> Stmt
+    ensures told { (ts : List terms.Tree) → statement_of ts result ≡ spec.ordered (spec.exchanges relation) (spec.relation_of relation) sort (tree_of ts left) (tree_of ts right) }
     ensures here { (ts : List terms.Tree) → IsIn ts left → IsIn ts right → IsStatementIn ts result }
 {
     let rel = relation_of(relation);
     if exchanges(relation) {
         Stmt {
             rel,
-            sort: kind,
+            sort,
             lhs: right,
             rhs: left,
         }
     } else {
         Stmt {
             rel,
-            sort: kind,
+            sort,
             lhs: left,
             rhs: right,
         }
     }
 }
 
-// What a statement says whose sides are of the sort `kind`.
+// What a statement says whose sides are of the given sort.
 #[tactic(auto, using(crate::proofs::Sides::sides_in))]
 fn build_statement_in<'a>(
     alloc: Global,
     arena: &mut Arena,
     scope: &Scope,
-    kind: Sort,
+    sort: Sort,
     statement: &Statement<'a>,
 ) -> Result<Stmt, Memory>
     ensures kept { Extends arena.old arena.new }
     ensures here { IfOk result (IsStatementIn arena.new) }
-    ensures built { IfOk result (λ p. statement_of arena.new p ≡ typed_statement_in scope.now kind statement.now) }
+    ensures built { IfOk result (λ p. statement_of arena.new p ≡ typed_statement_in scope.now sort statement.now) }
 {
     let (root, nodes) = statement.lhs.nodes();
-    let left = build(alloc, arena, nodes, scope, kind, root)?;
+    let left = build(alloc, arena, nodes, scope, sort, root)?;
     let (root, nodes) = statement.rhs.nodes();
-    let right = build(alloc, arena, nodes, scope, kind, root)?;
-    Ok(ordered(statement.relation, kind, left, right))
+    let right = build(alloc, arena, nodes, scope, sort, root)?;
+    Ok(ordered(statement.relation, sort, left, right))
 }
 
 /// What a statement says, with the sort of its sides, or its first fault. `>` and `≥` exchange the sides.
@@ -144,9 +144,9 @@ pub fn elaborate_statement<'a>(
     ensures good { IfOk result (λ r. IfOk r (λ p. (statement_faults scope.now statement.now ≡ []) × (statement_of arena.new p ≡ typed_statement scope.now statement.now))) }
     ensures faulty { IfOk result (λ r. IfErr r (λ cause. first (statement_faults scope.now statement.now) ≡ Some cause)) }
 {
-    let kind = statement_sort(alloc, scope, statement)?;
-    match statement_fault_in(alloc, scope, kind, statement)? {
+    let sort = statement_sort(alloc, scope, statement)?;
+    match statement_fault_in(alloc, scope, sort, statement)? {
         Some(cause) => Ok(Err(cause)),
-        None => Ok(Ok(build_statement_in(alloc, arena, scope, kind, statement)?)),
+        None => Ok(Ok(build_statement_in(alloc, arena, scope, sort, statement)?)),
     }
 }

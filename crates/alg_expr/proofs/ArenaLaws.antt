@@ -2,7 +2,6 @@
 use Rattle.std.specs.Prelude.{◌≡◌, List, [], ◌∷◌, ◌++◌, length, All}
 use Rattle.alg_terms.specs.Tree.{Tree, Lit}
 use Rattle.alg_expr.specs.declared.ids.ExprId.{ExprId}
-use Rattle.alg_expr.specs.declared.ids.View.TheVariants as view
 use Rattle.alg_expr.specs.Ids.{tree_of, IsIn, statement_of, statements_of, IsStatementIn}
 use Rattle.std.proofs.Common.{inl, inr, refl, ap, sym, ◌∙◌, arith, length-append, append-nil, append_assoc}
 use Rattle.std.proofs.Math.ListN.{get_or-append}

@@ -13,6 +13,7 @@ use crate::memory::Memory;
 use crate::nodes::Node;
 use alg_terms::{Sort, Sym};
 use indexmap::IndexMap;
+use smallvec::SmallVec;
 use std::alloc::Global;
 use std::marker::Model;
 use thiserror::Error;
@@ -165,7 +166,7 @@ impl Arena {
         ensures err { OnErr result (self.new ≡ self.old) }
     {
         let size = self.sizes(args).saturating_add(1);
-        let args = args.to_vec(self.alloc)?;
+        let args = SmallVec::from_slice(self.alloc, args)?;
         self.add(Node::App { sym, sort, args }, size)
     }
 
@@ -177,12 +178,9 @@ impl Arena {
         ensures ok { IfOk result (λ e. GrowsBy self.old self.new e (tree_at self.old node)) }
         ensures err { OnErr result (self.new ≡ self.old) }
     {
-        if let Some(index) = self.nodes.get_index_of(&node) {
-            return Ok(ExprId { index });
-        }
-        let index = self.nodes.len();
-        self.nodes.insert(node, size)?;
-        Ok(ExprId { index })
+        // a node that is there gets the size that it has
+        let added = self.nodes.insert_full(node, size)?;
+        Ok(ExprId { index: added.0 })
     }
 
     // drops the trees from this number on, and takes no memory

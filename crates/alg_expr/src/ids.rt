@@ -20,7 +20,9 @@ impl ExprId {
 }
 
 /// A relation between two trees of an arena, which are of the sort that stands beside it.
-#[derive(Clone, Copy, Debug)]
+///
+/// As with ids, lists that keep room for statements fill it with the default.
+#[derive(Clone, Copy, Debug, Default)]
 pub struct Stmt {
     pub rel: Rel,
     pub sort: Sort,

@@ -8,8 +8,6 @@ mod importing;
 mod items;
 mod memory;
 mod nodes;
-#[cfg(test)]
-mod tests;
 mod text;
 
 pub use alg_terms::{BadCause, GREATEST_LITERAL, Place, Rel, Sort, Sym};

@@ -1,5 +1,6 @@
 use crate::ids::ExprId;
 use alg_terms::{Sort, Sym};
+use smallvec::SmallVec;
 
 /// One level of a tree, as an arena keeps it.
 #[derive(Debug, PartialEq, Eq, Hash, Drop)]
@@ -15,6 +16,7 @@ pub(crate) enum Node {
     App {
         sym: Sym,
         sort: Sort,
-        args: Vec<ExprId>,
+        // one or two stand in place
+        args: SmallVec<ExprId, 2>,
     },
 }

@@ -17,7 +17,7 @@ use Rattle.alg_syntax.specs.declared.binders.Binder.TheVariants as binder
 use Rattle.alg_syntax.specs.declared.commands.Goal.{Goal}
 use Rattle.alg_syntax.specs.declared.commands.Command.{Command}
 use Rattle.alg_syntax.specs.declared.commands.Command.TheVariants as command
-use Rattle.alg_syntax.specs.Signs.{found_in, relations, operators, punctuation, fixed_of, relation_or, operator_or, plain_mark_of, mark_of, sign_of}
+use Rattle.alg_syntax.specs.Signs.{found_in, relations, operators, punctuation, fixed_of, relation_or, operator_or, sign_of_punctuation, sign_of_mark, sign_of}
 use Rattle.alg_syntax.specs.Spelling.{spell_all}
 use Rattle.alg_syntax.specs.Commands.{spell_names, spell_domain, spell_typed, spell_binder, spell_goal, spell_command}
 use Rattle.alg_commands.specs.Items.{signs_of}
@@ -74,12 +74,12 @@ operator_named : (o : Option operator.Operator) (s : Sign) → IsNamedSign s →
 operator_named (Some o) s h = tt
 operator_named None s h = h
 
-mark_named : (f : Bool) (text : List ℕ) → IsNamedSign (mark_of f text)
+mark_named : (f : Bool) (text : List ℕ) → IsNamedSign (sign_of_mark f text)
 mark_named f text =
     let last : Sign = relation_or (found_in relations text) (fixed_of (found_in punctuation text)) in
     let inverse : Sign = cond (bytes_eq text (0xE2 ∷ 0x81 ∷ 0xBB ∷ 0xC2 ∷ 0xB9 ∷ [])) Inverse last in
     let close : Sign = cond (bytes_eq text (codes ")")) Close inverse in
-    operator_named (found_in operators text) (plain_mark_of f text)
+    operator_named (found_in operators text) (sign_of_punctuation f text)
     (cond_named (bytes_eq text (codes "(")) (Open f) close tt
     (cond_named (bytes_eq text (codes ")")) Close inverse tt
     (cond_named (bytes_eq text (0xE2 ∷ 0x81 ∷ 0xBB ∷ 0xC2 ∷ 0xB9 ∷ [])) Inverse last tt

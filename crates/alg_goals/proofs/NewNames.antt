@@ -13,7 +13,7 @@ use Rattle.alg_names.specs.Entering.{enter, entered, IsFresh}
 use Rattle.alg_names.specs.Found.{found}
 use Rattle.alg_elaborate.specs.declared.causes.Cause.TheVariants.{NameTaken}
 use Rattle.alg_elaborate.specs.Faults.{when}
-use Rattle.alg_well_sorted.specs.Parts.{append_parts, when_off}
+use Rattle.alg_well_sorted.proofs.Parts.{append_parts, when_off}
 use Rattle.alg_binders.specs.Binders.{names_of, is_among, taken_faults, domain_faults, of_signature, declared_as, binder_faults, declared_by, binders_faults, declared_by_all}
 use Rattle.alg_show.specs.ReadingBack.{AllNew}
 

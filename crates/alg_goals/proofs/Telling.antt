@@ -17,7 +17,7 @@ use Rattle.alg_names.specs.Entering.{entered}
 use Rattle.alg_elaborate.specs.declared.causes.Cause.{Cause}
 use Rattle.alg_elaborate.specs.declared.causes.Cause.TheVariants.{NameTaken}
 use Rattle.alg_elaborate.specs.Faults.{first, when}
-use Rattle.alg_well_sorted.specs.Parts.{append_parts}
+use Rattle.alg_well_sorted.proofs.Parts.{append_parts}
 use Rattle.alg_commands.specs.declared.readings.Unreadable.{Unreadable}
 use Rattle.alg_commands.specs.Cutting.{commands_of}
 use Rattle.alg_commands.specs.Outcome.{IsOutcome}

@@ -6,6 +6,3 @@ mod files;
 
 pub use bases::{base_of, show_goal, show_over};
 pub use files::read_goals;
-
-#[cfg(test)]
-mod tests;

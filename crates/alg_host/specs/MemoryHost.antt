@@ -1,5 +1,5 @@
 -- What a host in memory tells, and which of its calls fail.
-use Rattle.std.specs.Prelude.{ℕ, List, [], map, Bool, true, false, Option, IsNone, IsTrue, Result, Err, string_bytes, Contains, ◌≡◌, ◌⊎◌, ◌+◌, ◌-◌, ◌^◌, ◌<◌, min, length}
+use Rattle.std.specs.Prelude.{ℕ, List, [], map, false, Option, IsNone, IsTrue, Result, Err, string_bytes, Contains, ◌≡◌, ◌⊎◌, ◌+◌, ◌-◌, ◌^◌, ◌<◌, min, length}
 use Rattle.std.specs.Option.{option_map}
 use Rattle.std.specs.BTreeMap.{BTreeMap, get_by_text}
 use Rattle.std.specs.declared.alloc.Global.{Global}

@@ -11,6 +11,3 @@ pub use alg_kernel::Proved;
 pub use host::{CreateFault, Failed, Host, LoadFault};
 pub use memory_host::MemoryHost;
 pub use real_host::RealHost;
-
-#[cfg(test)]
-mod tests;

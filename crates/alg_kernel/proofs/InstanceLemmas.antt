@@ -55,3 +55,6 @@ instance-made ds r s xs lines j k ls e f g a b c d h =
 
 pub filled-same : (t0 t1 : List Tree) (r : Row) (s : Sort) (with : List ExprId) (k ls : List ℕ) → Extends t0 t1 → All (IsIn t0) with → ls ≡ letters_of r → k ≡ ls → fill_statement k s (trees_at t1 with) r.conclusion ≡ fill_statement (letters_of r) s (trees_at t0 with) r.conclusion
 filled-same t0 t1 r s with k ls x h e f = λ i. fill_statement ((f ∙ e) i) s (trees_at-extends t0 t1 with x h i) r.conclusion
+
+pub filled-here : (ts : List Tree) (r : Row) (s : Sort) (with : List ExprId) (k ls : List ℕ) → ls ≡ letters_of r → k ≡ ls → fill_statement k s (trees_at ts with) r.conclusion ≡ fill_statement (letters_of r) s (trees_at ts with) r.conclusion
+filled-here ts r s with k ls e f = λ i. fill_statement ((f ∙ e) i) s (trees_at ts with) r.conclusion

@@ -1,5 +1,5 @@
 -- Which letters occur, node by node.
-use Rattle.std.proofs.Common.{◌≡◌, ℕ, zero, suc, ◌+◌, ◌-◌, ◌<◌, ◌≤◌, List, [], ◌∷◌, ◌++◌, get_or, take, drop, drop-cons, length, map, refl, ap, ap₂, sym, ◌∙◌, add-one, add-zero, subst, append_assoc, arith, Bool, true, false, if◌then◌else◌, nat_eq, replicate, lit<}
+use Rattle.std.proofs.Common.{◌≡◌, ℕ, zero, suc, ◌+◌, ◌-◌, ◌<◌, ◌≤◌, List, [], ◌∷◌, ◌++◌, get_or, take, drop, drop-cons, length, map, refl, ap, sym, ◌∙◌, add-one, append_assoc, arith, Bool, true, false, if◌then◌else◌, nat_eq, replicate, lit<}
 use Rattle.std.specs.Prelude.{◌||◌}
 use Rattle.std.proofs.lemmas.Bool.Decides.{nat_tests}
 use Rattle.std.proofs.Math.ListN.{set}
@@ -13,7 +13,7 @@ use Rattle.alg_law.specs.declared.patterns.Pat.{Pat as Node}
 use Rattle.alg_law.specs.declared.patterns.Pat.TheVariants as node
 use Rattle.alg_law.specs.declared.patterns.PatStmt.{PatStmt}
 use Rattle.alg_law.specs.Patterns.{Pat, PatStatement, occurs, occurs_among, occurs_in, occurs_in_any, occurring}
-use Rattle.alg_law.specs.LawRows.{parts, put, patterns, first_of, pattern_of}
+use Rattle.alg_law.specs.LawRows.{parts, patterns, first_of, pattern_of}
 use Rattle.alg_kernel.specs.Letters.{occurs_in_one, occurs_early}
 
 or-false : (b : Bool) → (b || false) ≡ b

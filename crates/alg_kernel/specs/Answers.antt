@@ -1,6 +1,6 @@
 -- What the kernel and its parts answer.
 use Rattle.std.specs.Prelude.{◌≡◌, List, [], ◌∷◌, ◌++◌, Option, Some, None, Result, Ok, Err, All, ⊤}
-use Rattle.std.specs.Global.{Vec}
+use Rattle.smallvec.specs.SmallVec.{SmallVec}
 use Rattle.alg_terms.specs.declared.causes.BadCause.TheVariants as cause
 use Rattle.alg_terms.specs.Tree.{Tree, Statement}
 use Rattle.alg_expr.specs.declared.ids.Stmt.{Stmt}
@@ -49,7 +49,7 @@ IsFound ts (Ok s) o = IsStatementIn ts s × (o ≡ Some (statement_of ts s))
 IsFound ts (Err f) o = (o ≡ None) × (f ≡ fault.Bad cause.Reference)
 
 -- the statements that were looked up, or a bad reference where one isn't there; want of memory says nothing
-abbrev pub AreFound : List Tree → Result (Vec Stmt) Fault → Option (List Statement) → Type 0
+abbrev pub AreFound : List Tree → Result (SmallVec Stmt) Fault → Option (List Statement) → Type 0
 AreFound ts (Ok v) o = All (IsStatementIn ts) v.items × (o ≡ Some (statements_of ts v.items))
 AreFound ts (Err (fault.Bad c)) o = (o ≡ None) × (c ≡ cause.Reference)
 AreFound ts (Err fault.Memory) o = ⊤

@@ -31,12 +31,16 @@ pub(crate) fn name_of(base: &Base, sym: Sym) -> Mark
     }
 }
 
-/// What earlier lines conclude.
-pub(crate) fn premises(arena: &Arena, done: &[Stmt], lines: &[u128]) -> Result<Vec<Stmt>, Fault>
+/// What earlier lines conclude: two of them stand in place, as most rows have no more.
+pub(crate) fn premises(
+    arena: &Arena,
+    done: &[Stmt],
+    lines: &[u128],
+) -> Result<SmallVec<Stmt, 2>, Fault>
     requires { All (IsStatementIn arena.now) done.now }
     ensures { AreFound arena.now result (statements_at (statements_of arena.now done.now) lines.now) }
 {
-    let mut found: Vec<Stmt> = Vec::new(arena.alloc());
+    let mut found: SmallVec<Stmt, 2> = SmallVec::new(arena.alloc());
     for line in lines {
         let s = earlier(arena, done, *line)?;
         found.push(s)?;

@@ -16,11 +16,9 @@ mod letters;
 pub mod proved;
 mod relations;
 mod rules;
-#[cfg(test)]
-mod tests;
 
 pub use alg_terms::BadCause;
 pub use answers::{Checked, Refusal};
-pub use conclusions::conclusion;
+pub use conclusions::{conclusion, row_conclusion};
 pub use kernel::{Kernel, accept};
 pub use proved::{Proved, ProvedStmt};

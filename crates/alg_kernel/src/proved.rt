@@ -18,9 +18,6 @@ use alg_proof::{Lemmas, Line};
 use std::alloc::Global;
 use std::marker::Model;
 
-#[cfg(test)]
-mod tests;
-
 /// A goal that was checked, with its base and the statement that was given, if there was one. Contracts see the three
 /// as declarations and trees.
 ///

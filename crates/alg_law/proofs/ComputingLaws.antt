@@ -1,7 +1,6 @@
 -- What the functions compute are the values.
-use Rattle.std.proofs.Common.{◌≡◌, ℕ, zero, suc, ◌+◌, ◌*◌, ◌-◌, ◌/◌, ◌%◌, ◌<◌, ◌≤◌, ◌==◌, Bool, true, false, ℤ, pos, negsuc, ◌+ℤ◌, ◌*ℤ◌, neg_ℤ, List, [], ◌∷◌, Option, Some, None, arith, refl, ap, sym, ◌∙◌, subst, mod-lt, eqb-true, eq-eqb}
-use Rattle.std.specs.Prelude.{unsigned_abs}
-use Rattle.std.specs.Int.{IsGcd, ◌∣◌, int_div_euclid, int_rem_euclid}
+use Rattle.std.proofs.Common.{◌≡◌, ℕ, zero, suc, ◌+◌, ◌*◌, ◌-◌, ◌/◌, ◌%◌, ◌<◌, true, ℤ, pos, negsuc, ◌+ℤ◌, ◌*ℤ◌, neg_ℤ, List, [], ◌∷◌, Some, arith, refl, ap, sym, ◌∙◌, subst, mod-lt, eqb-true, eq-eqb}
+use Rattle.std.specs.Int.{IsGcd, ◌∣◌}
 use Rattle.std.proofs.lemmas.Int.{ints}
 use Rattle.std.proofs.lemmas.Nat.Gcd.{dvd_of_mod-eq-zero, dvd-zero}
 use Rattle.std.proofs.Math.IntN.{*ℤ_comm, pos-*ℤ-negsuc}
@@ -10,7 +9,7 @@ use Rattle.alg_num.proofs.CoprimeLaws.{gcd_positive, coprime_quotients, divides_
 use Rattle.alg_num.specs.Reduced.{greatest_divisor}
 use Rattle.alg_num.proofs.ReducedLaws.{IsGcd-greatest_divisor}
 use Rattle.alg_terms.specs.declared.symbols.Sym.{Sym}
-use Rattle.alg_terms.specs.declared.symbols.Sym.TheVariants.{Add, Mul, Neg, Sub, Inv, Div, Npow, Zpow, Nsmul, Zsmul, Abs, Min, Max, NatSub, IDiv, Mod, Gcd, Lcm, Fact, Choose, Fib, Apply}
+use Rattle.alg_terms.specs.declared.symbols.Sym.TheVariants.{NatSub, IDiv, Mod, Gcd, Lcm, Fact, Choose, Fib}
 use Rattle.alg_law.specs.LeanFunctions.{IsLcm, IsDivision, IsIntegerQuotient, IsIntegerRemainder, IsNaturalValue, IsIntegerValue}
 use Rattle.alg_law.specs.Computing.{least_multiple, integer_quotient, integer_remainder, natural_value, integer_value, divides}
 

@@ -1,5 +1,5 @@
 -- Laws of the integers that std lacks: those of alg_num, and some that follow from them.
-use Rattle.std.proofs.Common.{◌≡◌, ℤ, pos, ◌+ℤ◌, ◌*ℤ◌, ◌-ℤ◌, neg_ℤ, arith, ap, sym, ◌∙◌}
+use Rattle.std.proofs.Common.{◌≡◌, ℤ, pos, ◌+ℤ◌, ◌*ℤ◌, ◌-ℤ◌, neg_ℤ, arith, ap, ◌∙◌}
 use Rattle.std.proofs.lemmas.Int.{ints}
 use Rattle.std.proofs.Math.IntN.{neg_ℤ-neg_ℤ}
 pub use Rattle.alg_num.proofs.IntegerLaws.{*ℤ_assoc, *ℤ-pos_one, *ℤ-+ℤ, +ℤ-*ℤ, *ℤ--ℤ, neg_ℤ-*ℤ, *ℤ-neg_ℤ, *ℤ_swap_middle}

@@ -1,14 +1,14 @@
 -- Steps by which an index of laws is made.
-use Rattle.std.specs.Prelude.{◌≡◌, ℕ, suc, ◌+◌, ◌<◌, Bool, true, false, List, [], ◌∷◌, drop, length, get_or, map, cond, if◌then◌else◌, nat_eq, Option, Some, None, option_map, refl}
-use Rattle.std.proofs.Common.{ap, sym, ◌∙◌, subst, add-one}
+use Rattle.std.specs.Prelude.{◌≡◌, ℕ, suc, ◌+◌, ◌<◌, Bool, true, false, List, [], ◌∷◌, drop, length, get_or, map, cond, if◌then◌else◌, Option, Some, None, option_map, refl}
+use Rattle.std.proofs.Common.{sym, subst, add-one}
 use Rattle.std.proofs.Math.Seq.{drop-cons}
 use Rattle.std.specs.Borrow.{Bor}
 use Rattle.std.specs.Str.{bytes_eq}
-use Rattle.std.specs.Cmp.Lexicographic.{pointwise, same_text}
+use Rattle.std.specs.Cmp.Lexicographic.{same_text}
 use Rattle.std.proofs.lemmas.Map.Text.{hash_map_updates_str}
 use Rattle.indexmap.specs.IndexMap.{IndexMap, get_by, UpdatesBy}
 use Rattle.alg_law.specs.declared.rows.Law.{Law}
-use Rattle.alg_law.specs.LawIndexing.{indexed, Indexes, AreLater, IsOneLater}
+use Rattle.alg_law.specs.LawIndexing.{indexed, AreLater, IsOneLater}
 use Rattle.alg_law.specs.LawRows.{row_of}
 use Rattle.alg_law.specs.Laws.{law_groups, law_table, rows_in, row_named}
 use Rattle.alg_law.specs.Rows.{Row}

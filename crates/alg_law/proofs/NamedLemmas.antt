@@ -1,6 +1,6 @@
 -- A row looked for in one list of rows after another.
-use Rattle.std.specs.Prelude.{◌≡◌, ℕ, zero, suc, ◌+◌, List, [], ◌∷◌, drop, map, get_or, Option, Some, None, refl}
-use Rattle.std.proofs.Common.{ap, sym, ◌∙◌, add-one}
+use Rattle.std.specs.Prelude.{◌≡◌, ℕ, zero, suc, ◌+◌, List, [], ◌∷◌, drop, map, get_or, refl}
+use Rattle.std.proofs.Common.{add-one}
 use Rattle.alg_law.specs.Rows.{Row}
 use Rattle.alg_law.specs.Laws.{rows_in, row_named}
 use Rattle.alg_law.specs.RowNames.{first_some}
@@ -17,9 +17,3 @@ by_suc f d n e (x ∷ xs) (suc i) = by_suc f d n e xs i
 pub row_named-at : {X : Type 0} (f : X → List Row) (d : X) (n : List ℕ) → f d ≡ [] → (xs : List X) (i : ℕ)
     → row_named (rows_in (map f (drop i xs))) n ≡ first_some (row_named (f (get_or xs i d)) n) (row_named (rows_in (map f (drop (i + 1) xs))) n)
 row_named-at f d n e xs i = rw (add-one i) (by_suc f d n e xs i)
-
-pub found : (o p q a t : Option Row) (r : Row) → o ≡ p → o ≡ Some r → a ≡ first_some p q → a ≡ t → Some r ≡ t
-found o p q a t r e f g h = sym (ap (λ x. first_some x q) (sym e ∙ f)) ∙ sym g ∙ h
-
-pub passed : (o p q a t : Option Row) → o ≡ p → o ≡ None → a ≡ first_some p q → a ≡ t → q ≡ t
-passed o p q a t e f g h = sym (ap (λ x. first_some x q) (sym e ∙ f)) ∙ sym g ∙ h

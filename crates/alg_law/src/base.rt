@@ -210,6 +210,3 @@ pub fn has(base: &Base, sort: Sort, class: Class) -> bool
 {
     test(base, sort, class)
 }
-
-#[cfg(test)]
-mod tests;

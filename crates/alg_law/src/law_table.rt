@@ -1,7 +1,6 @@
-ghost use Rattle.std.specs.Prelude.{◌≡◌, All, map, option_map};
+ghost use Rattle.std.specs.Prelude.{◌≡◌, All, map};
 ghost use Rattle.alg_law.specs.LawRows.{row_of};
-ghost use Rattle.alg_law.specs.Laws.{law_groups, law_table, row_named};
-ghost use Rattle.alg_law.specs.RowNames.{IsLawNamed};
+ghost use Rattle.alg_law.specs.Laws.{law_groups};
 ghost use Rattle.alg_law.specs.TrueRows.{IsTrueRow};
 
 use crate::additive_laws::{multiple_laws, sum_laws};
@@ -33,37 +32,4 @@ pub fn laws() -> [&'static [Law]; 11]
         ordered_semiring_laws(),
         ordered_ring_laws(),
     ]
-}
-
-/// The law with this name.
-pub fn law_named(name: &str) -> Option<&'static Law>
-    ensures exact { IsLawNamed name.now (option_map (λ l. row_of l.now) result) }
-    ensures first { option_map (λ l. row_of l.now) result ≡ row_named law_table name.now }
-{
-    first_named(name)
-}
-
-// the first law with this name, group after group
-fn first_named(name: &str) -> Option<&'static Law>
-    ensures { option_map (λ l. row_of l.now) result ≡ row_named law_table name.now }
-{
-    let groups = laws();
-    for group in groups {
-        if let Some(law) = named_in(group, name) {
-            return Some(law);
-        }
-    }
-    None
-}
-
-// the first law of a group with this name
-fn named_in(group: &'static [Law], name: &str) -> Option<&'static Law>
-    ensures { option_map (λ l. row_of l.now) result ≡ row_named (map row_of group.now) name.now }
-{
-    for law in group {
-        if law.name == name {
-            return Some(law);
-        }
-    }
-    None
 }

@@ -30,12 +30,9 @@ pub use copies::{Copies, Declarations};
 pub use declarations::Declared;
 pub use growing::Growing;
 pub use law_index::LawIndex;
-pub use law_table::{law_named, laws};
+pub use law_table::laws;
 pub use lending::{Given, Lent};
 pub use marks::{Mark, literal_class, mark_for, mark_for_head, mark_for_sort, relates, worse_of};
 pub use patterns::{Pat, PatSort, PatStmt};
 pub use rows::{Law, Need};
 pub use shared::Shared;
-
-#[cfg(test)]
-mod tests;

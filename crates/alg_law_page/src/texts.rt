@@ -8,7 +8,7 @@ pub(crate) const HEAD: [&str; 10] = [
     "",
     "Under \"Sort\" stand the classes that the sort must have; \"any\" asks for none, and \"ℕ\" says that the sort is ℕ. Most names are Mathlib's; a `0` at the end tells the law of a field from that of a group, `_ord` that of an ordered ring from that of a field.",
     "",
-    "The table is `law_table` of `crates/alg_law/specs/Laws.antt`. The code has it as data, `laws()` and `law_named(name)` of `alg_law`, proved to be the same rows. There are 87.",
+    "The table is `law_table` of `crates/alg_law/specs/Laws.antt`. The code has it as data, `laws()` of `alg_law`, proved to be the same rows, and finds each by its name in a `LawIndex`. There are 87.",
     "",
 ];
 

@@ -4,7 +4,8 @@ use Rattle.std.specs.Prelude.{◌&&◌, nat_eq}
 use Rattle.std.proofs.lemmas.Bool.{and_parts}
 use Rattle.std.proofs.lemmas.Bool.Decides.{nat_tests}
 use Rattle.alg_terms.specs.declared.symbols.Sym.{Sym}
-use Rattle.alg_terms.specs.Keys.{sym_key, sym_key-inj}
+use Rattle.alg_terms.specs.Keys.{sym_key}
+use Rattle.alg_terms.proofs.KeyLaws.{sym_key-inj}
 use Rattle.alg_terms.specs.Order.{rel_same}
 use Rattle.alg_terms.proofs.OrderLaws.{rel_same-equal}
 use Rattle.alg_law.specs.declared.patterns.PatSort.{PatSort}

@@ -27,6 +27,7 @@ use Rattle.alg_law.specs.Laws.{law_table, row_named}
 use Rattle.alg_law.proofs.RowNameLaws.{row_named-exact}
 use Rattle.alg_law.specs.WellSorted.{sort_mark, IsWellSorted, AreWellSorted}
 use Rattle.alg_law.specs.Derivations.{Derivable, AllDerivable, none, more, reflexive, symmetric, transitive, congruent, substitution, row, literal_law, distinct, smul_literal, zsmul_literal, zpow_literal, equations, count_of}
+use Rattle.alg_law.specs.RowNames.{is_none}
 use Rattle.alg_proof.specs.declared.lines.BridgeKind.{BridgeKind}
 use Rattle.alg_proof.specs.declared.lines.BridgeKind.TheVariants.{Smul, Zsmul, Zpow}
 use Rattle.alg_proof.specs.Causes.{line_at, is_small, is_eq_rel}
@@ -38,7 +39,7 @@ use Rattle.alg_lemma.specs.Kinds.{kind_same, kind_has, needs_met}
 use Rattle.alg_lemma.specs.Fitting.{kind_of, kinds_of, fits, all_fit, statement_fits, statements_fit}
 use Rattle.alg_lemma.specs.Same.{pattern_same, pattern_statements_same}
 use Rattle.alg_lemma.specs.Putting.{put_statement}
-use Rattle.alg_lemma.specs.Proving.{then_with, only_where, relation_at, equal_at, pattern_equation, put_before, lines_at, flipped, chained, replaced, equations_only, left_patterns, right_patterns, same_kind, under, letters_match, row_at, cited, literal_sum_at, literal_product_at, literal_relation_at, bridge_sides, bridge_kind_has, bridge_at, said, fitting, conclude_pattern, conclusions, is_conclusion, ends_with, proves, is_absent, may_join}
+use Rattle.alg_lemma.specs.Proving.{then_with, only_where, relation_at, equal_at, pattern_equation, put_before, lines_at, flipped, chained, replaced, equations_only, left_patterns, right_patterns, same_kind, under, letters_match, row_at, cited, literal_sum_at, literal_product_at, literal_relation_at, bridge_sides, bridge_kind_has, bridge_at, said, fitting, conclude_pattern, conclusions, is_conclusion, ends_with, proves, may_join}
 use Rattle.alg_lemma.proofs.Alike.{kind_same-equal, pattern_same-equal, pattern_statement_same-equal, pattern_statements_same-equal}
 use Rattle.alg_lemma.proofs.Having.{kind_has-sound, kind_known, needs_met-sound, group_or_field}
 use Rattle.alg_lemma.proofs.Filled.{fill_statement-put, sort_of_filled, filled-good, list-good, list-sorts}
@@ -364,16 +365,16 @@ found-admissible [] h n r e = cc
 found-admissible (x ∷ rows) h n r e =
     pick-admissible (pointwise nat_eq x.name n) x r (row_named rows n) (All-head IsAdmissible x rows h) (found-admissible rows (All-tail IsAdmissible x rows h) n r) e
 
-absent-none : (o : Option Row) → is_absent o ≡ true → o ≡ None
+absent-none : (o : Option Row) → is_none o ≡ true → o ≡ None
 absent-none None e = refl
 absent-none (Some r) e = cc
 
 -- a lemma that may join rows that follow from the laws follows from them too
 pub joining-admissible : (rows : List Row) (l : LemmaRow) → All IsAdmissible rows → may_join rows l ≡ true → IsAdmissible (lemma_row_of l)
 joining-admissible rows l h e =
-    let k = and_parts (is_absent (row_named rows (lemma_row_of l).name)) (proves rows (lemma_row_of l) (proof_of l)) e in
+    let k = and_parts (is_none (row_named rows (lemma_row_of l).name)) (proves rows (lemma_row_of l) (proof_of l)) e in
     proves-admissible rows (found-admissible rows h) (lemma_row_of l) (proof_of l) k.1
 
 pub joining-new : (rows : List Row) (l : LemmaRow) → may_join rows l ≡ true → row_named rows (lemma_row_of l).name ≡ None
 joining-new rows l e =
-    absent-none (row_named rows (lemma_row_of l).name) (and_parts (is_absent (row_named rows (lemma_row_of l).name)) (proves rows (lemma_row_of l) (proof_of l)) e).0
+    absent-none (row_named rows (lemma_row_of l).name) (and_parts (is_none (row_named rows (lemma_row_of l).name)) (proves rows (lemma_row_of l) (proof_of l)) e).0

@@ -15,6 +15,7 @@ use Rattle.alg_law.specs.Patterns.{Pat, PLit, PApp, Pats, PNil, PCons, PatStatem
 use Rattle.alg_law.specs.LawRows.{parts}
 use Rattle.alg_law.specs.Rows.{Row, letters_of}
 use Rattle.alg_law.specs.Laws.{law_table, row_named}
+use Rattle.alg_law.specs.RowNames.{is_none}
 use Rattle.alg_proof.specs.declared.lines.BridgeKind.{BridgeKind}
 use Rattle.alg_proof.specs.declared.lines.BridgeKind.TheVariants.{Smul, Zsmul, Zpow}
 use Rattle.alg_proof.specs.Causes.{line_at, is_small, is_eq_rel}
@@ -189,13 +190,9 @@ proves rows r ls =
     statements_fit r.needs (letters_of r) r.premises
     && ends_with r.conclusion (conclusions rows r.needs (letters_of r) r.premises ls)
 
-abbrev pub is_absent : Option Row → Bool
-is_absent None = true
-is_absent (Some r) = false
-
 -- the lemma has a new name, and its lines prove it from the laws and these rows
 abbrev pub may_join : List Row → LemmaRow → Bool
-may_join rows l = is_absent (row_named rows (lemma_row_of l).name) && proves rows (lemma_row_of l) (proof_of l)
+may_join rows l = is_none (row_named rows (lemma_row_of l).name) && proves rows (lemma_row_of l) (proof_of l)
 
 -- each of these lemmas may join these rows and the lemmas before it
 abbrev pub all_may_join : List Row → List LemmaRow → Bool

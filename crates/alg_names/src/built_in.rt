@@ -1,5 +1,5 @@
 ghost use Rattle.std.specs.Prelude.{◌≡◌, ◌++◌, [], ◌∷◌, None, IfOk, OnOk};
-ghost use Rattle.alg_names.specs.BuiltIn.{built_in, sorts, shared, naturals};
+ghost use Rattle.alg_names.specs.BuiltIn.{built_in, sorts, shared};
 ghost use Rattle.alg_names.specs.BuiltIn as spec;
 ghost use Rattle.alg_names.specs.Found.{found};
 

@@ -10,4 +10,4 @@ mod scope;
 pub use grants::{Granted, Grants};
 pub use meanings::Meaning;
 pub use names::Names;
-pub use scope::{Mark, Scope};
+pub use scope::{Checkpoint, Scope};

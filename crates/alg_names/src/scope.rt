@@ -9,7 +9,7 @@ ghost use Rattle.alg_law.specs.WellSorted.{has_classes};
 ghost use Rattle.alg_names.specs.declared.meanings.Meaning.TheVariants as meanings;
 ghost use Rattle.alg_names.specs.declared.scope.Scope as declared_scope;
 ghost use Rattle.alg_names.specs.BuiltIn.{built_in};
-ghost use Rattle.alg_names.specs.Entering.{with_name, enter, entered, mark_of, IsFresh};
+ghost use Rattle.alg_names.specs.Entering.{with_name, enter, entered, checkpoint_of, IsFresh};
 ghost use Rattle.alg_names.specs.Found.{found};
 ghost use Rattle.alg_names.specs.InForce.{meaning, instances, has, supports, relates};
 
@@ -35,7 +35,7 @@ pub struct Scope {
 
 /// How much is in force.
 #[derive(Clone, Copy)]
-pub struct Mark {
+pub struct Checkpoint {
     names: usize,
     granted: usize,
     declared: u32,
@@ -214,10 +214,10 @@ impl Scope {
     }
 
     /// How much is in force now.
-    pub fn mark(&self) -> Mark
-        ensures { result ≡ mark_of self.now }
+    pub fn checkpoint(&self) -> Checkpoint
+        ensures { result ≡ checkpoint_of self.now }
     {
-        Mark {
+        Checkpoint {
             names: self.names.len(),
             granted: self.granted.len(),
             declared: self.declared,
@@ -225,14 +225,14 @@ impl Scope {
         }
     }
 
-    /// Takes out of force what was entered since the mark.
+    /// Takes out of force what was entered since the checkpoint.
     #[tactic(auto, using(crate::proofs::Leaving::left))]
-    pub fn leave(&mut self, mark: Mark)
-        ensures { (s : declared_scope.Scope) (ds : List Declaration) → mark ≡ mark_of s → self.old ≡ entered s ds → self.new ≡ s }
+    pub fn leave(&mut self, checkpoint: Checkpoint)
+        ensures { (s : declared_scope.Scope) (ds : List Declaration) → checkpoint ≡ checkpoint_of s → self.old ≡ entered s ds → self.new ≡ s }
     {
-        self.names.leave(mark.names);
-        self.granted.leave(mark.granted);
-        self.declared = mark.declared;
-        self.hypotheses = mark.hypotheses;
+        self.names.leave(checkpoint.names);
+        self.granted.leave(checkpoint.granted);
+        self.declared = checkpoint.declared;
+        self.hypotheses = checkpoint.hypotheses;
     }
 }

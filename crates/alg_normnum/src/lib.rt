@@ -5,6 +5,3 @@ pub mod norm;
 
 pub use alg_build::{Outcome, TacFault};
 pub use norm::norm_num;
-
-#[cfg(test)]
-mod tests;

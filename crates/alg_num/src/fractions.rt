@@ -273,6 +273,3 @@ fn power(den: u128, n: u128) -> Option<u128>
     let power = pow(den as i128, n)?;
     Some(power.unsigned_abs())
 }
-
-#[cfg(test)]
-mod tests;

@@ -1,10 +1,9 @@
 -- A combination without a fault comes to two trees, and its parts are good.
-use Rattle.std.proofs.Common.{◌≡◌, Bool, true, false, ◌&&◌, List, [], ◌∷◌, ◌++◌, All, Option, Some, None, refl, ap, sym, ◌∙◌, subst}
+use Rattle.std.proofs.Common.{◌≡◌, Bool, true, false, ◌&&◌, List, [], ◌∷◌, ◌++◌, All, Option, Some, None, refl, ap, sym, ◌∙◌}
 use Rattle.std.proofs.lemmas.Bool.{and_parts}
 use Rattle.std.proofs.lemmas.List.Elements.{All-nil, All-cons, All-append}
 use Rattle.std.specs.Option.{IsSome, is_some}
 use Rattle.alg_terms.specs.declared.sorts.Sort.{Sort}
-use Rattle.alg_terms.specs.declared.sorts.Sort.TheVariants.{Nat, Int, Rat, Decl}
 use Rattle.alg_terms.specs.declared.relations.Rel.TheVariants.{Eq}
 use Rattle.alg_terms.specs.declared.symbols.Sym.TheVariants as symbol
 use Rattle.alg_terms.specs.Tree.{Tree, Statement}
@@ -20,15 +19,14 @@ use Rattle.alg_names.specs.declared.scope.Scope.{Scope}
 use Rattle.alg_names.specs.InForce.{meaning}
 use Rattle.alg_elaborate.specs.declared.causes.Cause.TheVariants.{BadCombination}
 use Rattle.alg_elaborate.specs.Raw.{Raw, literal, named, negation, reciprocal, operation, applied, of_sort}
-use Rattle.alg_elaborate.specs.Operations.{difference_symbol, quotient_symbol}
 use Rattle.alg_elaborate.specs.Combinations.{is_proof, combines}
 use Rattle.alg_elaborate.specs.Faults.{lacks, name_faults, miscombines, faults}
 use Rattle.alg_elaborate.specs.TypedTrees.{typed_name, typed}
 use Rattle.alg_combinations.specs.Combined.{named_part, where_proof, combined}
 use Rattle.alg_well_sorted.specs.Agreeing.{IsMeant, Agrees}
-use Rattle.alg_well_sorted.specs.Parts.{append_parts, when_none, lacks_none}
-use Rattle.alg_well_sorted.specs.Compounds.{IsOfSort}
-use Rattle.alg_well_sorted.specs.TypedGood.{is_meant, name-typed, typed-good}
+use Rattle.alg_well_sorted.proofs.Parts.{append_parts, when_none, lacks_none}
+use Rattle.alg_well_sorted.specs.OfSort.{IsOfSort}
+use Rattle.alg_well_sorted.proofs.TypedGood.{is_meant, name-typed, typed-good}
 use Rattle.alg_parse.proofs.NoProofs.{faults-unused}
 
 -- good parts that put one pair before those that were there
@@ -77,18 +75,6 @@ joined-pushed ds k x xs ys f j h i =
           );
     }
 
-difference_same : (k : Sort) → difference_symbol k ≡ difference_of k
-difference_same Nat = refl
-difference_same Int = refl
-difference_same Rat = refl
-difference_same (Decl d) = refl
-
-quotient_same : (k : Sort) → quotient_symbol k ≡ quotient_of k
-quotient_same Nat = refl
-quotient_same Int = refl
-quotient_same Rat = refl
-quotient_same (Decl d) = refl
-
 name-pushed : (ds : List Declaration) (k : Sort) (m : Option Meaning) → IsMeant ds m → IsKnown ds k → name_faults true k m ≡ [] → IsPushed ds k (named_part (typed_name k m) m ∷ [])
 name-pushed ds k None h known e = cc
 name-pushed ds k (Some (SortName l)) h known e = cc
@@ -128,12 +114,12 @@ module _ (s : Scope) (ds : List Declaration) (g : Agrees s ds) where
       chosen (combines Add (is_proof s a) (is_proof s b)) k (operation Add a b) (combined s k a ++ (combined s k b ++ sum ∷ [])) refl known e
       (joined-pushed ds k sum (combined s k a) (combined s k b) (lacks_none s ds g symbol.Add k p.0) (λ q p ps. (_, refl)) (combined-pushed k a known r.0) (combined-pushed k b known r.1))
   combined-pushed k (operation Sub a b) known e =
-      let f = difference_symbol k in
+      let f = difference_of k in
       let p = append_parts (lacks s f k) (miscombines s true (operation Sub a b) ++ (faults s true k a ++ faults s true k b)) e in
       let q = append_parts (miscombines s true (operation Sub a b)) (faults s true k a ++ faults s true k b) p.1 in
       let r = append_parts (faults s true k a) (faults s true k b) q.1 in
       chosen (combines Sub (is_proof s a) (is_proof s b)) k (operation Sub a b) (combined s k a ++ (combined s k b ++ difference ∷ [])) refl known e
-      (joined-pushed ds k difference (combined s k a) (combined s k b) (subst (λ x. Supports ds x k) (difference_same k) (lacks_none s ds g f k p.0)) (λ q p ps. (_, refl)) (combined-pushed k a known r.0) (combined-pushed k b known r.1))
+      (joined-pushed ds k difference (combined s k a) (combined s k b) (lacks_none s ds g f k p.0) (λ q p ps. (_, refl)) (combined-pushed k a known r.0) (combined-pushed k b known r.1))
   combined-pushed k (operation Mul a b) known e =
       let p = append_parts (lacks s symbol.Mul k) (miscombines s true (operation Mul a b) ++ (faults s true k a ++ faults s true k b)) e in
       let q = append_parts (miscombines s true (operation Mul a b)) (faults s true k a ++ faults s true k b) p.1 in
@@ -141,12 +127,12 @@ module _ (s : Scope) (ds : List Declaration) (g : Agrees s ds) where
       chosen (combines Mul (is_proof s a) (is_proof s b)) k (operation Mul a b) (combined s k a ++ (combined s k b ++ product ∷ [])) refl known e
       (joined-pushed ds k product (combined s k a) (combined s k b) (lacks_none s ds g symbol.Mul k p.0) (λ q p ps. (_, refl)) (combined-pushed k a known r.0) (combined-pushed k b known r.1))
   combined-pushed k (operation Div a b) known e =
-      let f = quotient_symbol k in
+      let f = quotient_of k in
       let p = append_parts (lacks s f k) (miscombines s true (operation Div a b) ++ (faults s true k a ++ faults s true k b)) e in
       let q = append_parts (miscombines s true (operation Div a b)) (faults s true k a ++ faults s true k b) p.1 in
       let r = append_parts (faults s true k a) (faults s true k b) q.1 in
       chosen (combines Div (is_proof s a) (is_proof s b)) k (operation Div a b) (combined s k a ++ (combined s k b ++ quotient ∷ [])) refl known e
-      (joined-pushed ds k quotient (combined s k a) (combined s k b) (subst (λ x. Supports ds x k) (quotient_same k) (lacks_none s ds g f k p.0)) (λ q p ps. (_, refl)) (combined-pushed k a known r.0) (combined-pushed k b known r.1))
+      (joined-pushed ds k quotient (combined s k a) (combined s k b) (lacks_none s ds g f k p.0) (λ q p ps. (_, refl)) (combined-pushed k a known r.0) (combined-pushed k b known r.1))
   combined-pushed k (operation Mod a b) known e = leaf-pushed k (operation Mod a b) known refl e
   combined-pushed k (operation Smul a b) known e = leaf-pushed k (operation Smul a b) known refl e
   combined-pushed k (operation Pow a b) known e = leaf-pushed k (operation Pow a b) known refl e

@@ -1,7 +1,7 @@
 pub mod CallLaws
 pub mod CombinationsGood
 pub mod Keeping
-pub mod Looked
+pub mod Lookups
 pub mod NoProofs
 pub mod ProgressLaws
 pub mod ScriptsFit

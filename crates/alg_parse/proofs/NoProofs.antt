@@ -12,10 +12,11 @@ use Rattle.alg_elaborate.specs.declared.causes.Cause.TheVariants.{BadCombination
 use Rattle.alg_elaborate.specs.Raw.{Raw, Raws, literal, named, negation, reciprocal, operation, applied, of_sort, none, more, count}
 use Rattle.alg_elaborate.specs.Meanings.{is_hypothesis, type_of, argument_sorts}
 use Rattle.alg_elaborate.specs.Regions.{exponent_sort, sort_or}
-use Rattle.alg_elaborate.specs.Operations.{difference_symbol, quotient_symbol, power_symbol, multiple_symbol}
+use Rattle.alg_law.specs.Combinations.{difference_of, quotient_of}
+use Rattle.alg_elaborate.specs.Operations.{power_of, multiple_of}
 use Rattle.alg_elaborate.specs.Combinations.{is_proof, any_proof, combines}
 use Rattle.alg_elaborate.specs.Faults.{when, lacks, lacks_by, not_integral, name_faults, sort_name_faults, applied_faults, miscombines, faults, faults_of_each}
-use Rattle.alg_well_sorted.specs.Parts.{append_parts}
+use Rattle.alg_well_sorted.proofs.Parts.{append_parts}
 
 none_both : (xs ys : List Cause) → xs ≡ [] → ys ≡ [] → xs ++ ys ≡ []
 none_both [] ys e f = f
@@ -61,11 +62,11 @@ mutual
       let n = neither (combines Add (is_proof s a) (is_proof s b)) (is_proof s a) (is_proof s b) h q.0 in
       none_both (lacks s symbol.Add k) (faults s false k a ++ faults s false k b) p.0 (none_both (faults s false k a) (faults s false k b) (faults-unused s k a n.0 r.0) (faults-unused s k b n.1 r.1))
   faults-unused s k (operation Sub a b) h e =
-      let p = append_parts (lacks s (difference_symbol k) k) (miscombines s true (operation Sub a b) ++ (faults s true k a ++ faults s true k b)) e in
+      let p = append_parts (lacks s (difference_of k) k) (miscombines s true (operation Sub a b) ++ (faults s true k a ++ faults s true k b)) e in
       let q = append_parts (miscombines s true (operation Sub a b)) (faults s true k a ++ faults s true k b) p.1 in
       let r = append_parts (faults s true k a) (faults s true k b) q.1 in
       let n = neither (combines Sub (is_proof s a) (is_proof s b)) (is_proof s a) (is_proof s b) h q.0 in
-      none_both (lacks s (difference_symbol k) k) (faults s false k a ++ faults s false k b) p.0 (none_both (faults s false k a) (faults s false k b) (faults-unused s k a n.0 r.0) (faults-unused s k b n.1 r.1))
+      none_both (lacks s (difference_of k) k) (faults s false k a ++ faults s false k b) p.0 (none_both (faults s false k a) (faults s false k b) (faults-unused s k a n.0 r.0) (faults-unused s k b n.1 r.1))
   faults-unused s k (operation Mul a b) h e =
       let p = append_parts (lacks s symbol.Mul k) (miscombines s true (operation Mul a b) ++ (faults s true k a ++ faults s true k b)) e in
       let q = append_parts (miscombines s true (operation Mul a b)) (faults s true k a ++ faults s true k b) p.1 in
@@ -73,11 +74,11 @@ mutual
       let n = neither (combines Mul (is_proof s a) (is_proof s b)) (is_proof s a) (is_proof s b) h q.0 in
       none_both (lacks s symbol.Mul k) (faults s false k a ++ faults s false k b) p.0 (none_both (faults s false k a) (faults s false k b) (faults-unused s k a n.0 r.0) (faults-unused s k b n.1 r.1))
   faults-unused s k (operation Div a b) h e =
-      let p = append_parts (lacks s (quotient_symbol k) k) (miscombines s true (operation Div a b) ++ (faults s true k a ++ faults s true k b)) e in
+      let p = append_parts (lacks s (quotient_of k) k) (miscombines s true (operation Div a b) ++ (faults s true k a ++ faults s true k b)) e in
       let q = append_parts (miscombines s true (operation Div a b)) (faults s true k a ++ faults s true k b) p.1 in
       let r = append_parts (faults s true k a) (faults s true k b) q.1 in
       let n = neither (combines Div (is_proof s a) (is_proof s b)) (is_proof s a) (is_proof s b) h q.0 in
-      none_both (lacks s (quotient_symbol k) k) (faults s false k a ++ faults s false k b) p.0 (none_both (faults s false k a) (faults s false k b) (faults-unused s k a n.0 r.0) (faults-unused s k b n.1 r.1))
+      none_both (lacks s (quotient_of k) k) (faults s false k a ++ faults s false k b) p.0 (none_both (faults s false k a) (faults s false k b) (faults-unused s k a n.0 r.0) (faults-unused s k b n.1 r.1))
   faults-unused s k (operation Mod a b) h e =
       let p = append_parts (lacks s symbol.Mod k) (miscombines s true (operation Mod a b) ++ (faults s true k a ++ faults s true k b)) e in
       let q = append_parts (miscombines s true (operation Mod a b)) (faults s true k a ++ faults s true k b) p.1 in
@@ -86,21 +87,21 @@ mutual
       none_both (lacks s symbol.Mod k) (faults s false k a ++ faults s false k b) p.0 (none_both (faults s false k a) (faults s false k b) (faults-unused s k a n.0 r.0) (faults-unused s k b n.1 r.1))
   faults-unused s k (operation Smul a b) h e =
       let l = exponent_sort s a in
-      let p = append_parts (lacks_by s l (multiple_symbol l) k) (miscombines s true (operation Smul a b) ++ ((not_integral l ++ faults s true l a) ++ faults s true k b)) e in
+      let p = append_parts (lacks_by s l (multiple_of l) k) (miscombines s true (operation Smul a b) ++ ((not_integral l ++ faults s true l a) ++ faults s true k b)) e in
       let q = append_parts (miscombines s true (operation Smul a b)) ((not_integral l ++ faults s true l a) ++ faults s true k b) p.1 in
       let r = append_parts (not_integral l ++ faults s true l a) (faults s true k b) q.1 in
       let i = append_parts (not_integral l) (faults s true l a) r.0 in
       let n = neither (combines Smul (is_proof s a) (is_proof s b)) (is_proof s a) (is_proof s b) h q.0 in
-      none_both (lacks_by s l (multiple_symbol l) k) ((not_integral l ++ faults s false l a) ++ faults s false k b) p.0
+      none_both (lacks_by s l (multiple_of l) k) ((not_integral l ++ faults s false l a) ++ faults s false k b) p.0
       (none_both (not_integral l ++ faults s false l a) (faults s false k b) (none_both (not_integral l) (faults s false l a) i.0 (faults-unused s l a n.0 i.1)) (faults-unused s k b n.1 r.1))
   faults-unused s k (operation Pow a b) h e =
       let l = exponent_sort s b in
-      let p = append_parts (lacks_by s l (power_symbol l) k) (miscombines s true (operation Pow a b) ++ (faults s true k a ++ (not_integral l ++ faults s true l b))) e in
+      let p = append_parts (lacks_by s l (power_of l) k) (miscombines s true (operation Pow a b) ++ (faults s true k a ++ (not_integral l ++ faults s true l b))) e in
       let q = append_parts (miscombines s true (operation Pow a b)) (faults s true k a ++ (not_integral l ++ faults s true l b)) p.1 in
       let r = append_parts (faults s true k a) (not_integral l ++ faults s true l b) q.1 in
       let i = append_parts (not_integral l) (faults s true l b) r.1 in
       let n = neither (combines Pow (is_proof s a) (is_proof s b)) (is_proof s a) (is_proof s b) h q.0 in
-      none_both (lacks_by s l (power_symbol l) k) (faults s false k a ++ (not_integral l ++ faults s false l b)) p.0
+      none_both (lacks_by s l (power_of l) k) (faults s false k a ++ (not_integral l ++ faults s false l b)) p.0
       (none_both (faults s false k a) (not_integral l ++ faults s false l b) (faults-unused s k a n.0 r.0) (none_both (not_integral l) (faults s false l b) i.0 (faults-unused s l b n.1 i.1)))
   faults-unused s k (applied f us) h e =
       let p = append_parts (applied_faults s k (meaning s f) (count us)) (miscombines s true (applied f us) ++ faults_of_each s true us (argument_sorts k (meaning s f))) e in

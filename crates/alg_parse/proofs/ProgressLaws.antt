@@ -20,7 +20,8 @@ use Rattle.alg_syntax.specs.declared.commands.Goal.{Goal}
 use Rattle.alg_syntax.specs.declared.commands.Command as written
 use Rattle.alg_syntax.specs.declared.commands.Command.TheVariants.{Import, Variable, Theorem, Example}
 use Rattle.alg_names.specs.declared.scope.Scope.{Scope}
-use Rattle.alg_names.specs.Entering.{entered, entered-joined}
+use Rattle.alg_names.specs.Entering.{entered}
+use Rattle.alg_names.proofs.EnteringLemmas.{entered-joined}
 use Rattle.alg_elaborate.specs.declared.causes.Cause.{Cause}
 use Rattle.alg_elaborate.specs.Faults.{first}
 use Rattle.alg_elaborate.specs.Statements.{statement_sort, statement_faults, typed_statement, ordered, exchanges, relation_of}
@@ -30,10 +31,10 @@ use Rattle.alg_binders.specs.Binders.{binders_faults, declared_by_all}
 use Rattle.alg_binders.specs.CommandFaults.{script_faults, proof_faults, command_faults, declared_after}
 use Rattle.alg_binders.specs.Stated.{IsStated}
 use Rattle.alg_well_sorted.specs.Agreeing.{Follows}
-use Rattle.alg_well_sorted.specs.Parts.{append_parts}
-use Rattle.alg_well_sorted.specs.EnteringLaws.{start-follows, entered-follows, all_follow-joined}
-use Rattle.alg_well_sorted.specs.BindersGood.{binders-follow}
-use Rattle.alg_well_sorted.specs.StatementsGood.{statement-good}
+use Rattle.alg_well_sorted.proofs.Parts.{append_parts}
+use Rattle.alg_well_sorted.proofs.EnteringLaws.{start-follows, entered-follows, all_follow-joined}
+use Rattle.alg_well_sorted.proofs.BindersGood.{binders-follow}
+use Rattle.alg_well_sorted.proofs.StatementsGood.{statement-good}
 use Rattle.alg_parse.specs.declared.procedures.Proc.{Proc}
 use Rattle.alg_parse.specs.declared.commands.Elaborated.TheVariants.{Declares, States}
 use Rattle.alg_parse.specs.declared.file_trees.Command.{Command}

@@ -28,9 +28,9 @@ use Rattle.alg_binders.specs.Binders.{is_among, binders_faults, declared_by_all}
 use Rattle.alg_binders.specs.Procedures.{procedure_named}
 use Rattle.alg_binders.specs.CommandFaults.{step_faults, further_faults, script_faults, proof_faults, goal_faults, command_faults, declared_after}
 use Rattle.alg_well_sorted.specs.Agreeing.{Agrees}
-use Rattle.alg_well_sorted.specs.Parts.{append_parts}
-use Rattle.alg_well_sorted.specs.EnteringLaws.{entered-follows, all_follow-joined}
-use Rattle.alg_well_sorted.specs.StatementsGood.{statement_sort-known}
+use Rattle.alg_well_sorted.proofs.Parts.{append_parts}
+use Rattle.alg_well_sorted.proofs.EnteringLaws.{entered-follows, all_follow-joined}
+use Rattle.alg_well_sorted.proofs.StatementsGood.{statement_sort-known}
 use Rattle.alg_parse.specs.Told.{Told, declares, goal, faulty, plain, calls_named, calls_at, further_calls, calls_of, unnamed}
 use Rattle.alg_parse.specs.Files.{Known, in_force, goal_told, command_told, told_where, told_of, known_where, known_after, fault_in, Tell, none, more}
 use Rattle.alg_parse.specs.Fitting.{CallFits, ToldFits}

@@ -1,4 +1,4 @@
-ghost use Rattle.std.specs.Prelude.{◌≡◌, List, [], Some, All, IfOk, IfErr};
+ghost use Rattle.std.specs.Prelude.{◌≡◌, [], Some, All, IfOk, IfErr};
 ghost use Rattle.alg_expr.specs.Arena.{Extends};
 ghost use Rattle.alg_expr.specs.Ids.{IsStatementIn};
 ghost use Rattle.alg_law.specs.Declarations.{declarations_of, IsDeclaredIn};
@@ -44,12 +44,12 @@ fn declare<'a>(
     ensures faulty { IfOk result (λ r. IfErr r (λ c. first (binders_faults scope.old binders.now) ≡ Some c)) }
     ensures back { IfOk result (λ r. IfErr r (λ _. scope.new ≡ scope.old)) }
 {
-    let mark = scope.mark();
+    let checkpoint = scope.checkpoint();
     let mut local: Vec<Declared> = Vec::new(alloc);
     match add_binders(alloc, arena, scope, &mut local, binders)? {
         None => Ok(Ok(Items::of(local))),
         Some(cause) => {
-            scope.leave(mark);
+            scope.leave(checkpoint);
             Ok(Err(cause))
         }
     }

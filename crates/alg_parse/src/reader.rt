@@ -1,4 +1,4 @@
-ghost use Rattle.std.specs.Prelude.{◌≡◌, ◌<◌, ◌+◌, ◌^◌, List, [], ◌∷◌, ◌++◌, length, false, Ok, None, ◌↔◌, All, OnOk, IfOk, IsTrue};
+ghost use Rattle.std.specs.Prelude.{◌≡◌, ◌<◌, ◌+◌, ◌^◌, List, [], ◌∷◌, ◌++◌, false, Ok, None, ◌↔◌, All, OnOk, IfOk, IsTrue};
 ghost use Rattle.alg_expr.specs.Ids.{IsStatementIn};
 ghost use Rattle.alg_law.specs.Declarations.{declarations_of, IsDeclaredIn};
 ghost use Rattle.alg_law.specs.Following.{AllMayFollow};

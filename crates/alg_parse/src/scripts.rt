@@ -10,7 +10,7 @@ ghost use Rattle.alg_combinations.specs.Combined.{combined};
 use crate::procedures::Proc;
 use alg_binders::procedure_named;
 use alg_combinations::build_combination;
-use alg_elaborate::mark_proofs;
+use alg_elaborate::find_proofs;
 use alg_expr::{Arena, Items, Memory, Sort};
 use alg_names::Scope;
 use alg_syntax::expressions::Expression;
@@ -35,15 +35,15 @@ fn combination_of<'a>(
     alloc: Global,
     arena: &mut Arena,
     scope: &Scope,
-    kind: Sort,
+    sort: Sort,
     expression: &Expression<'a>,
 ) -> Result<Proc, Memory>
     ensures kept { Extends arena.old arena.new }
-    ensures told { IfOk result (λ p. IsCall arena.new p (combination (combined scope.now kind (meant expression.now)))) }
+    ensures told { IfOk result (λ p. IsCall arena.new p (combination (combined scope.now sort (meant expression.now)))) }
 {
     let (root, nodes) = expression.nodes();
-    let proofs = mark_proofs(alloc, nodes, scope)?;
-    let combo = build_combination(alloc, arena, nodes, scope, proofs.as_slice(), kind, root)?;
+    let proofs = find_proofs(alloc, nodes, scope)?;
+    let combo = build_combination(alloc, arena, nodes, scope, proofs.as_slice(), sort, root)?;
     Ok(Proc::LinearCombination(combo))
 }
 
@@ -52,34 +52,34 @@ fn add_combination<'a>(
     alloc: Global,
     arena: &mut Arena,
     scope: &Scope,
-    kind: Sort,
+    sort: Sort,
     expression: &Expression<'a>,
     procs: &mut Vec<Proc>,
 ) -> Result<(), Memory>
     ensures kept { Extends arena.old arena.new }
-    ensures told { OnOk result ((cs : List Call) → AreCalls arena.old procs.old.items cs → AreCalls arena.new procs.new.items (cs ++ combination (combined scope.now kind (meant expression.now)) ∷ [])) }
+    ensures told { OnOk result ((cs : List Call) → AreCalls arena.old procs.old.items cs → AreCalls arena.new procs.new.items (cs ++ combination (combined scope.now sort (meant expression.now)) ∷ [])) }
 {
-    let procedure = combination_of(alloc, arena, scope, kind, expression)?;
+    let procedure = combination_of(alloc, arena, scope, sort, expression)?;
     procs.push(procedure)?;
     Ok(())
 }
 
-// A procedure without a fault, on a goal of the sort `kind`.
+// A procedure without a fault, on a goal of the given sort.
 #[tactic(auto, using(crate::proofs::CallLaws::extends_self))]
 fn add_step<'a>(
     alloc: Global,
     arena: &mut Arena,
     scope: &Scope,
-    kind: Sort,
+    sort: Sort,
     step: &Step<'a>,
     procs: &mut Vec<Proc>,
 ) -> Result<(), Memory>
     ensures kept { Extends arena.old arena.new }
-    ensures told { OnOk result ((cs : List Call) → AreCalls arena.old procs.old.items cs → AreCalls arena.new procs.new.items (cs ++ calls_at scope.now kind step.now)) }
+    ensures told { OnOk result ((cs : List Call) → AreCalls arena.old procs.old.items cs → AreCalls arena.new procs.new.items (cs ++ calls_at scope.now sort step.now)) }
 {
     match step {
         Step::Combination(_, expression) => add_combination(
-            alloc, arena, scope, kind, expression, procs,
+            alloc, arena, scope, sort, expression, procs,
         ),
         Step::Procedure(name) => add_named(name, procs),
     }
@@ -90,38 +90,38 @@ fn add_further<'a>(
     alloc: Global,
     arena: &mut Arena,
     scope: &Scope,
-    kind: Sort,
+    sort: Sort,
     further: &[Further<'a>],
     procs: &mut Vec<Proc>,
 ) -> Result<(), Memory>
     ensures kept { Extends arena.old arena.new }
-    ensures told { OnOk result ((cs : List Call) → AreCalls arena.old procs.old.items cs → AreCalls arena.new procs.new.items (cs ++ further_calls scope.now kind further.now)) }
+    ensures told { OnOk result ((cs : List Call) → AreCalls arena.old procs.old.items cs → AreCalls arena.new procs.new.items (cs ++ further_calls scope.now sort further.now)) }
 {
     for step in further {
-        add_step(alloc, arena, scope, kind, &step.step, procs)?;
+        add_step(alloc, arena, scope, sort, &step.step, procs)?;
     }
     Ok(())
 }
 
-/// The procedures of a script without a fault, on a goal of the sort `kind`, in the scope of the goal's binders.
+/// The procedures of a script without a fault, on a goal of the given sort, in the scope of the goal's binders.
 #[tactic(auto, using(crate::proofs::CallLaws::extends_then, crate::proofs::CallLaws::script_called))]
 pub fn build_script<'a>(
     alloc: Global,
     arena: &mut Arena,
     scope: &Scope,
-    kind: Sort,
+    sort: Sort,
     script: &Script<'a>,
 ) -> Result<Items<Proc>, Memory>
     ensures kept { Extends arena.old arena.new }
-    ensures told { IfOk result (λ procs. AreCalls arena.new procs (calls_of scope.now kind script.now)) }
+    ensures told { IfOk result (λ procs. AreCalls arena.new procs (calls_of scope.now sort script.now)) }
 {
     let mut procs: Vec<Proc> = Vec::new(alloc);
-    add_step(alloc, arena, scope, kind, &script.first, &mut procs)?;
+    add_step(alloc, arena, scope, sort, &script.first, &mut procs)?;
     add_further(
         alloc,
         arena,
         scope,
-        kind,
+        sort,
         script.further.as_slice(),
         &mut procs,
     )?;

@@ -1,5 +1,5 @@
 -- What a valid list of lines concludes is derivable: lemmas and the lines that compute with literals are reduced to the laws.
-use Rattle.std.specs.Prelude.{◌≡◌, ℕ, zero, suc, ℤ, ◌+◌, ◌*◌, ◌-◌, ◌<◌, ◌≤◌, if◌then◌else◌, Bool, true, false, ◌&&◌, ◌||◌, not, nat_eq, nat_lt, List, [], ◌∷◌, ◌++◌, length, map, All, Contains, Option, Some, None, Result, Ok, Err, slice_get, ⊤, refl}
+use Rattle.std.specs.Prelude.{◌≡◌, ℕ, zero, suc, ◌+◌, ◌*◌, ◌-◌, ◌<◌, ◌≤◌, if◌then◌else◌, Bool, true, false, ◌&&◌, not, nat_eq, nat_lt, List, [], ◌∷◌, ◌++◌, length, map, All, Contains, Option, Some, None, Ok, Err, slice_get, refl}
 use Rattle.std.proofs.Common.{ap, sym, subst, arith, ◌∙◌}
 use Rattle.std.proofs.lemmas.Bool.{and_parts}
 use Rattle.std.proofs.lemmas.Bool.Decides.{nat_tests}
@@ -8,20 +8,15 @@ use Rattle.alg_terms.specs.declared.sorts.Sort.{Sort}
 use Rattle.alg_terms.specs.declared.symbols.Sym.{Sym}
 use Rattle.alg_terms.specs.declared.relations.Rel.{Rel}
 use Rattle.alg_terms.specs.declared.relations.Rel.TheVariants.{Eq, Ne, Lt, Le, Dvd}
-use Rattle.alg_terms.specs.declared.causes.BadCause.{BadCause}
 use Rattle.alg_terms.specs.declared.causes.BadCause.TheVariants as cause
-use Rattle.alg_terms.specs.Tree.{Tree, Lit, Var, App, Trees, Nil, Cons, of_list, Statement, sort_of_tree, equal, sum_tree, product_tree}
+use Rattle.alg_terms.specs.Tree.{Tree, Lit, App, of_list, Statement, sort_of_tree, equal, sum_tree, product_tree}
 use Rattle.alg_terms.specs.Order.{tree_same, sort_same}
-use Rattle.alg_terms.proofs.OrderLaws.{tree_same-equal, sort_same-equal}
-use Rattle.alg_law.specs.declared.classes.Class.{Class}
-use Rattle.alg_law.specs.declared.classes.Class.TheVariants.{Semiring, CharZero, AddGroup, Group, Field, IsStrictOrderedRing}
-use Rattle.alg_law.specs.declared.marks.Mark.{Mark}
+use Rattle.alg_terms.proofs.OrderLaws.{tree_same-equal}
+use Rattle.alg_law.specs.declared.classes.Class.TheVariants.{Semiring}
 use Rattle.alg_law.specs.declared.marks.Mark.TheVariants.{Good}
 use Rattle.alg_law.specs.Declarations.{Declaration, hypotheses}
-use Rattle.alg_law.specs.Following.{IsWellFormed}
 use Rattle.alg_law.specs.Having.{has_class}
-use Rattle.alg_law.specs.Lawful.{IsLawful}
-use Rattle.alg_law.specs.WellSorted.{sort_mark, head_mark, mark_of, marks_of, sorts_of, IsWellSorted, AreWellSorted, IsStatement}
+use Rattle.alg_law.specs.WellSorted.{sort_mark, head_mark, mark_of, marks_of, sorts_of, IsWellSorted, AreWellSorted}
 use Rattle.alg_law.proofs.WellSortedLaws.{worse-good, worse-parts}
 use Rattle.alg_law.specs.Patterns.{fill_statement}
 use Rattle.alg_law.specs.Rows.{Row, letters_of, MayFill}
@@ -35,13 +30,13 @@ use Rattle.alg_proof.proofs.LiteralSums.{literal_sum, literal_product}
 use Rattle.alg_proof.proofs.LiteralOrder.{literal_less, literal_at_most}
 use Rattle.alg_proof.specs.Causes.{Concludes, line_at, statements_at, join, or_cause, only_if, only_good, is_eq_rel, is_equation, is_small, statement_same}
 use Rattle.alg_proof.specs.Instances.{instance_of, row_line}
-use Rattle.alg_proof.proofs.InstanceLaws.{only_if-ok, only_good-ok, or_cause-ok, same-equal, IsInstance, instance_of-is, row_named-contains}
+use Rattle.alg_proof.proofs.InstanceLaws.{only_if-ok, only_good-ok, or_cause-ok, same-equal, instance_of-is, row_named-contains}
 use Rattle.alg_proof.specs.LiteralLines.{sum_of, product_of, relation_class, has_literal, relation_holds, relation_of, bridge_class, bridge_from, bridge_to, bridge_of}
 use Rattle.alg_proof.proofs.ComputationLaws.{value_line-law, divides_line-law}
 use Rattle.alg_proof.specs.Steps.{Theory, Step, Refl, Symm, Trans, Cong, Subst, Law, Lemma, Hyp, Rest, LitAdd, LitMul, LitRel, Bridge, Compute, symm_of, trans_of, subst_of, all_equations, left_sides, right_sides, value_sort, cong_of, step_mark, conclude_named, conclude}
 use Rattle.alg_proof.proofs.Extending.{hypotheses-statements}
 use Rattle.alg_proof.proofs.Derived.{derivable-statement}
-use Rattle.alg_proof.specs.Valid.{Verdict, Accepted, BadAt, EndsWrong, ends_in, go_on, verdict_from, verdict, IsValid}
+use Rattle.alg_proof.specs.Valid.{Verdict, Accepted, EndsWrong, ends_in, go_on, verdict_from, IsValid}
 use Rattle.alg_proof.specs.Admissible.{IsTheory, Follows, IsFine, AllFine}
 
 is_eq_rel-eq : (r : Rel) → is_eq_rel r ≡ true → r ≡ Eq

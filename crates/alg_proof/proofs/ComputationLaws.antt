@@ -1,18 +1,16 @@
 -- What a good computation tells: a law of literals.
-use Rattle.std.specs.Prelude.{◌≡◌, ℕ, suc, ℤ, pos, negsuc, unsigned_abs, Bool, true, false, ◌&&◌, ◌||◌, nat_eq, nat_lt, ◌^◌, List, [], ◌∷◌, map, length, Option, Some, None, option_map, Ok, refl, if◌then◌else◌}
-use Rattle.std.proofs.Common.{ap, ap₂, sym, ◌∙◌, subst, arith}
+use Rattle.std.specs.Prelude.{◌≡◌, ℕ, suc, ℤ, pos, negsuc, unsigned_abs, Bool, true, false, ◌&&◌, nat_eq, nat_lt, ◌^◌, List, [], ◌∷◌, map, length, Option, Some, None, option_map, Ok, refl, if◌then◌else◌}
+use Rattle.std.proofs.Common.{ap, ap₂, sym, ◌∙◌, subst}
 use Rattle.std.proofs.lemmas.Bool.{and_parts}
-use Rattle.std.proofs.lemmas.Bool.Decides.{nat_tests}
 use Rattle.alg_terms.specs.declared.sorts.Sort.{Sort}
 use Rattle.alg_terms.specs.declared.sorts.Sort.TheVariants.{Nat, Int, Rat, Decl}
 use Rattle.alg_terms.specs.declared.symbols.Sym.{Sym}
 use Rattle.alg_terms.specs.declared.relations.Rel.TheVariants.{Dvd}
 use Rattle.alg_terms.specs.declared.causes.BadCause.TheVariants as cause
 use Rattle.alg_terms.specs.Symbols.{is_integral}
-use Rattle.alg_terms.specs.Tree.{Tree, Lit, App, of_list, Statement, equal}
+use Rattle.alg_terms.specs.Tree.{Lit, App, of_list, Statement, equal}
 use Rattle.alg_law.specs.declared.classes.Class.{Class}
 use Rattle.alg_law.specs.declared.classes.Class.TheVariants.{AddGroup}
-use Rattle.alg_law.specs.declared.marks.Mark.TheVariants.{Good}
 use Rattle.alg_law.specs.Declarations.{Declaration, Carrier, Instance, Variable, Function, Hypothesis}
 use Rattle.alg_law.specs.Having.{has_class, instances_give}
 use Rattle.alg_law.specs.WellSorted.{head_mark}

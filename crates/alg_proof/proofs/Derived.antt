@@ -1,11 +1,10 @@
 -- What is derivable is well sorted.
-use Rattle.std.specs.Prelude.{◌≡◌, ℕ, suc, ℤ, pos, negsuc, Bool, true, ◌||◌, List, [], ◌∷◌, map, Option, Some, Contains, refl}
-use Rattle.std.proofs.Common.{ap, sym, ◌∙◌, subst, inl, inr}
+use Rattle.std.specs.Prelude.{◌≡◌, ℕ, suc, ℤ, pos, negsuc, true, ◌||◌, List, [], ◌∷◌, map, Option, Some, Contains, refl}
+use Rattle.std.proofs.Common.{sym, ◌∙◌, inl, inr}
 use Rattle.alg_terms.specs.declared.sorts.Sort.{Sort}
 use Rattle.alg_terms.specs.declared.sorts.Sort.TheVariants.{Nat, Int}
 use Rattle.alg_terms.specs.declared.symbols.Sym.{Sym}
 use Rattle.alg_terms.specs.declared.symbols.Sym.TheVariants.{Neg, Npow, Zpow, Nsmul, Zsmul, NatSub, IDiv, Mod, Gcd, Lcm, Fact, Choose, Fib}
-use Rattle.alg_terms.specs.declared.relations.Rel.TheVariants.{Ne, Dvd}
 use Rattle.alg_terms.specs.Tree.{Tree, Lit, App, Nil, Cons, of_list, Statement, sort_of_tree, equal, sum_tree}
 use Rattle.alg_terms.proofs.OrderLaws.{sort_same-self}
 use Rattle.alg_law.specs.declared.classes.Class.TheVariants.{Semiring, AddGroup, AddMonoid, Monoid, Group, Field}
@@ -14,7 +13,7 @@ use Rattle.alg_law.specs.Declarations.{Declaration, hypotheses}
 use Rattle.alg_law.specs.Having.{has_class}
 use Rattle.alg_law.proofs.HavingLaws.{has_class-all}
 use Rattle.alg_law.specs.Lawful.{IsLawful}
-use Rattle.alg_law.specs.WellSorted.{sort_mark, head_mark, mark_of, IsWellSorted, IsStatement}
+use Rattle.alg_law.specs.WellSorted.{head_mark, mark_of, IsWellSorted, IsStatement}
 use Rattle.alg_law.proofs.WellSortedLaws.{worse-good, known-from_good, literal-good, sum-good, product-good, semiring-add}
 use Rattle.alg_law.specs.LeanFunctions.{IsNaturalValue, IsIntegerValue}
 use Rattle.alg_law.specs.Derivations.{numeral, related, LiteralLaw, next_literal, distinct, smul_literal, zsmul_literal, zpow_literal, natural_value, integer_value, natural_divides, integer_divides, Derivable, reflexive, symmetric, transitive, congruent, substitution, row, literal_law, hypothesis, rest}

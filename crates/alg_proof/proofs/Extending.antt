@@ -1,6 +1,6 @@
 -- What is well sorted under declarations stays so under more; so each hypothesis is well sorted.
 use Rattle.std.specs.Prelude.{◌≡◌, ℕ, zero, suc, Bool, true, false, ◌&&◌, ◌||◌, if◌then◌else◌, nat_eq, List, [], ◌∷◌, ◌++◌, length, Option, Some, None, slice_get, Contains, refl}
-use Rattle.std.proofs.Common.{ap, sym, ◌∙◌, subst, arith, inl, inr, append_assoc}
+use Rattle.std.proofs.Common.{ap, subst, arith, inl, inr, append_assoc}
 use Rattle.std.proofs.lemmas.Bool.{and_parts, and_from, or_left, or_right}
 use Rattle.alg_terms.specs.declared.sorts.Sort.{Sort}
 use Rattle.alg_terms.specs.declared.sorts.Sort.TheVariants.{Nat, Int, Rat, Decl}
@@ -9,15 +9,14 @@ use Rattle.alg_terms.specs.declared.symbols.Sym.TheVariants.{Add, Mul, Neg, Sub,
 use Rattle.alg_terms.specs.declared.relations.Rel.{Rel}
 use Rattle.alg_terms.specs.declared.relations.Rel.TheVariants.{Eq, Ne, Lt, Le, Dvd}
 use Rattle.alg_terms.specs.Symbols.{places, arguments_fit}
-use Rattle.alg_terms.specs.Tree.{Tree, Lit, Var, App, Trees, Nil, Cons, Statement, sort_of_tree}
+use Rattle.alg_terms.specs.Tree.{Tree, Lit, Var, App, Trees, Nil, Cons, Statement}
 use Rattle.alg_law.specs.declared.classes.Class.{Class}
 use Rattle.alg_law.specs.declared.classes.Class.TheVariants as class
-use Rattle.alg_law.specs.declared.marks.Mark.{Mark}
-use Rattle.alg_law.specs.declared.marks.Mark.TheVariants.{Good, NoInstance, BadSort, BadName}
+use Rattle.alg_law.specs.declared.marks.Mark.TheVariants.{Good, BadSort, BadName}
 use Rattle.alg_law.specs.Classes.{gives, own_classes}
-use Rattle.alg_law.specs.Declarations.{Declaration, Carrier, Instance, Variable, Function, Hypothesis, hypotheses, with_hypothesis}
+use Rattle.alg_law.specs.Declarations.{Declaration, Carrier, Instance, Variable, Function, Hypothesis, hypotheses}
 use Rattle.alg_law.specs.Having.{has_class, instance_gives, instances_give}
-use Rattle.alg_law.specs.Following.{MayFollow, AllMayFollow, IsWellFormed}
+use Rattle.alg_law.specs.Following.{AllMayFollow, IsWellFormed}
 use Rattle.alg_law.specs.WellSorted.{is_type, variable_of, function_of, sort_mark, literal_class, class_mark, of_sort, of_function, has_classes, built_in_mark, symbol_mark, head_mark, mark_of, marks_of, sorts_of, has_relation, IsWellSorted, AreWellSorted, IsStatement}
 use Rattle.alg_law.proofs.WellSortedLaws.{worse-good, worse-parts}
 use Rattle.alg_proof.proofs.PatternLaws.{or_else}

@@ -1,6 +1,6 @@
 -- What a good instance of a row tells.
-use Rattle.std.specs.Prelude.{◌≡◌, ℕ, Bool, true, false, ◌&&◌, nat_eq, List, [], ◌∷◌, length, map, Option, Some, None, Contains, zero, suc, All, Result, Ok, Err, refl, if◌then◌else◌}
-use Rattle.std.proofs.Common.{ap, ap₂, sym, ◌∙◌, subst, arith}
+use Rattle.std.specs.Prelude.{◌≡◌, ℕ, Bool, true, false, ◌&&◌, nat_eq, List, [], ◌∷◌, length, map, Option, Some, None, Contains, suc, Result, Ok, refl, if◌then◌else◌}
+use Rattle.std.proofs.Common.{ap₂, arith}
 use Rattle.std.proofs.lemmas.Bool.{and_parts, and_from}
 use Rattle.std.proofs.lemmas.Bool.Decides.{nat_tests}
 use Rattle.std.specs.Cmp.Lexicographic.{pointwise}
@@ -18,11 +18,11 @@ use Rattle.alg_law.specs.declared.marks.Mark.TheVariants.{Good, NoInstance, BadS
 use Rattle.alg_law.specs.Declarations.{Declaration}
 use Rattle.alg_law.specs.Having.{has_class}
 use Rattle.alg_law.specs.WellSorted.{sort_mark, AreWellSorted}
-use Rattle.alg_law.specs.Patterns.{PatStatement, sort_for, letter_sort, fill_statement}
-use Rattle.alg_law.specs.Rows.{Row, letters_of, meets, meets_all, MayFill}
+use Rattle.alg_law.specs.Patterns.{PatStatement, letter_sort, fill_statement}
+use Rattle.alg_law.specs.Rows.{Row, letters_of, meets_all, MayFill}
 use Rattle.alg_law.specs.Laws.{row_named}
-use Rattle.alg_proof.specs.Causes.{Concludes, or_cause, only_if, only_good, statement_same}
-use Rattle.alg_proof.specs.Instances.{letters_agree, letters_fit, premises_agree, premises_fit, sort_meets, sort_meets_all, class_meets, class_meets_all, premises_alike, instance_of}
+use Rattle.alg_proof.specs.Causes.{or_cause, only_if, only_good, statement_same}
+use Rattle.alg_proof.specs.Instances.{letters_agree, letters_fit, premises_agree, premises_fit, sort_meets_all, class_meets_all, premises_alike, instance_of}
 
 -- what a good test, mark or look-up tells
 pub only_if-ok : {B : Type 0} (b : Bool) (c : BadCause) (r : Result B BadCause) (s : B) → only_if b c r ≡ Ok s → (b ≡ true) × (r ≡ Ok s)

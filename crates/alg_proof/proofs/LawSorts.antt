@@ -1,6 +1,6 @@
 -- The conclusion of each instance of a law is well sorted.
-use Rattle.std.specs.Prelude.{◌≡◌, zero, suc, true, ◌&&◌, List, [], ◌∷◌, Contains, refl}
-use Rattle.std.proofs.Common.{arith, subst, ap, sym}
+use Rattle.std.specs.Prelude.{◌≡◌, zero, suc, true, List, [], ◌∷◌, Contains, refl}
+use Rattle.std.proofs.Common.{arith, subst}
 use Rattle.std.proofs.lemmas.Bool.{and_parts}
 use Rattle.alg_terms.specs.declared.sorts.Sort.{Sort}
 use Rattle.alg_terms.specs.Tree.{Tree}

@@ -15,7 +15,7 @@ use Rattle.alg_law.specs.Laws.{law_table}
 use Rattle.alg_law.specs.OrderLaws.{order_laws, le_refl, le_of_lt, lt_trans}
 use Rattle.alg_law.specs.OrderedRingLaws.{ordered_semiring_laws, zero_lt_one, add_lt_add_le}
 use Rattle.alg_law.proofs.LawTableLaws.{has-order_law, has-ordered_semiring_law}
-use Rattle.alg_law.specs.Derivations.{related, Derivable, substitution, row, AllDerivable, none, more}
+use Rattle.alg_law.specs.Derivations.{related, Derivable, substitution, row, none, more}
 use Rattle.alg_proof.proofs.PatternLaws.{ordered-parts}
 use Rattle.alg_proof.proofs.LiteralSums.{literal_sum}
 

@@ -4,19 +4,17 @@ use Rattle.std.proofs.Common.{add-suc, add-zero, mul-zero, mul-suc}
 use Rattle.alg_terms.specs.declared.sorts.Sort.{Sort}
 use Rattle.alg_terms.specs.declared.symbols.Sym.TheVariants.{Add, Mul}
 use Rattle.alg_terms.specs.Tree.{Tree, Lit, Nil, Cons, Statement, sort_of_tree, equal, sum_tree, product_tree}
-use Rattle.alg_law.specs.declared.classes.Class.{Class}
 use Rattle.alg_law.specs.declared.classes.Class.TheVariants.{Semiring}
 use Rattle.alg_law.specs.declared.marks.Mark.TheVariants.{Good}
 use Rattle.alg_law.specs.Declarations.{Declaration}
 use Rattle.alg_law.specs.Having.{has_class}
 use Rattle.alg_law.specs.WellSorted.{sort_mark, mark_of, IsWellSorted, AreWellSorted}
 use Rattle.alg_law.proofs.WellSortedLaws.{worse-good, literal-good, sum-good, product-good, semiring-add, semiring-one}
-use Rattle.alg_law.specs.Rows.{MayFill}
 use Rattle.alg_law.specs.AdditiveLaws.{add_assoc, add_zero}
 use Rattle.alg_law.specs.MultiplicativeLaws.{mul_one}
 use Rattle.alg_law.specs.RingLaws.{left_distrib, mul_zero}
 use Rattle.alg_law.proofs.LawTableLaws.{has-add_assoc, has-add_zero, has-mul_one, has-left_distrib, has-mul_zero}
-use Rattle.alg_law.specs.Derivations.{Derivable, reflexive, symmetric, transitive, congruent, row, literal_law, next_literal, AllDerivable, none, more}
+use Rattle.alg_law.specs.Derivations.{Derivable, reflexive, symmetric, transitive, congruent, row, literal_law, next_literal, none, more}
 
 module _ (ds : List Declaration) (given : Option Statement) (s : Sort) (known : sort_mark ds s ≡ Good) (ring : has_class ds s Semiring ≡ true) where
   abbrev Has : Tree → Tree → Type 0

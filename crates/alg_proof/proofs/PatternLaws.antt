@@ -1,7 +1,7 @@
 -- A pattern that passes the test is well sorted in each instance.
 use Rattle.std.specs.Prelude.{◌≡◌, ℕ, suc, Bool, true, false, ◌&&◌, ◌||◌, not, if◌then◌else◌, nat_eq, nat_lt, List, [], ◌∷◌, length, map, get_or, refl, ◌⊎◌}
 use Rattle.std.proofs.Common.{ap, sym, ◌∙◌, subst, arith, inl, inr}
-use Rattle.std.proofs.lemmas.Bool.{and_parts, and_from, or_left, or_right, or_cases}
+use Rattle.std.proofs.lemmas.Bool.{and_parts, and_from, or_left, or_right}
 use Rattle.std.proofs.lemmas.Bool.Decides.{nat_tests}
 use Rattle.alg_terms.specs.declared.sorts.Sort.{Sort}
 use Rattle.alg_terms.specs.declared.sorts.Sort.TheVariants.{Nat, Int}
@@ -12,7 +12,7 @@ use Rattle.alg_terms.specs.declared.symbols.Place.TheVariants.{Same, OfNat, OfIn
 use Rattle.alg_terms.specs.declared.relations.Rel.{Rel}
 use Rattle.alg_terms.specs.declared.relations.Rel.TheVariants.{Eq, Ne, Lt, Le, Dvd}
 use Rattle.alg_terms.specs.Symbols.{places, places_fit, place_fits, serves, arguments_fit, is_integral}
-use Rattle.alg_terms.specs.Tree.{Tree, Lit, App, Trees, Nil, Cons, of_list, sort_of_tree}
+use Rattle.alg_terms.specs.Tree.{Tree, Lit, Trees, Nil, Cons, of_list, sort_of_tree}
 use Rattle.alg_terms.specs.Order.{sort_same}
 use Rattle.alg_terms.proofs.OrderLaws.{sort_same-equal, sort_same-self}
 use Rattle.alg_law.specs.declared.classes.Class.{Class}
@@ -26,12 +26,12 @@ use Rattle.alg_law.specs.Classes.{all_of, is_among, gives, own_classes}
 use Rattle.alg_law.specs.Declarations.{Declaration}
 use Rattle.alg_law.specs.Having.{has_class, instances_give}
 use Rattle.alg_law.proofs.HavingLaws.{has_class-all}
-use Rattle.alg_law.specs.Lawful.{IsLawful, lawful_at}
+use Rattle.alg_law.specs.Lawful.{IsLawful}
 use Rattle.alg_law.specs.WellSorted.{literal_class, class_mark, sort_mark, has_classes, built_in_mark, symbol_mark, head_mark, mark_of, marks_of, sorts_of, has_relation, IsWellSorted, AreWellSorted, IsStatement}
 use Rattle.alg_law.proofs.WellSortedLaws.{worse-good, worse-parts}
 use Rattle.alg_law.specs.Patterns.{Pat, Letter, PLit, PApp, Pats, PNil, PCons, PatStatement, sort_for, letter_sort, index_in, fill, fills, fill_statement}
-use Rattle.alg_law.specs.Rows.{Row, letters_of, MayFill, meets, meets_all}
-use Rattle.alg_proof.proofs.PatternSorts.{pat_sort_same, letter_pat_sort, pat_sort, comes_with, needs_give, class_ok, needs_nat, is_nat, is_whole, serves_ok, classes_ok, place_ok, places_ok, is_letter, pat_ok, pats_ok, relation_ok, pat_statement_ok, row_ok}
+use Rattle.alg_law.specs.Rows.{Row, letters_of, MayFill, meets_all}
+use Rattle.alg_proof.proofs.PatternSorts.{pat_sort_same, letter_pat_sort, pat_sort, comes_with, needs_give, class_ok, needs_nat, is_nat, is_whole, serves_ok, classes_ok, place_ok, places_ok, is_letter, pat_ok, pats_ok, relation_ok, row_ok}
 
 abbrev pub or_else : (x y : Bool) → (x || y) ≡ true → (x ≡ true) ⊎ (y ≡ true)
 or_else true y e = inl refl

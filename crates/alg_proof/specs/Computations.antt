@@ -1,5 +1,5 @@
 -- What a computation concludes.
-use Rattle.std.specs.Prelude.{ℕ, ℤ, pos, negsuc, suc, unsigned_abs, Bool, true, false, ◌&&◌, nat_eq, List, [], ◌∷◌, map, length, Option, Some, None, option_map, Ok}
+use Rattle.std.specs.Prelude.{ℤ, pos, negsuc, suc, unsigned_abs, Bool, true, false, ◌&&◌, nat_eq, List, [], ◌∷◌, map, length, Option, None, option_map, Ok}
 use Rattle.alg_terms.specs.declared.sorts.Sort.{Sort}
 use Rattle.alg_terms.specs.declared.sorts.Sort.TheVariants.{Nat, Int, Rat, Decl}
 use Rattle.alg_terms.specs.declared.symbols.Sym.{Sym}

@@ -1,5 +1,5 @@
 -- When a row follows from the laws.
-use Rattle.std.specs.Prelude.{◌≡◌, List, map, Option}
+use Rattle.std.specs.Prelude.{List, map, Option}
 use Rattle.alg_terms.specs.declared.sorts.Sort.{Sort}
 use Rattle.alg_terms.specs.Tree.{Tree, Statement}
 use Rattle.alg_law.specs.Declarations.{Declaration}

@@ -1,5 +1,5 @@
 -- Lines over ids as lines over trees.
-use Rattle.std.specs.Prelude.{◌≡◌, List, map, ⊤, All}
+use Rattle.std.specs.Prelude.{List, map, ⊤, All}
 use Rattle.alg_terms.specs.Tree.{Tree}
 use Rattle.alg_expr.specs.Ids.{tree_of, trees_at, IsIn}
 use Rattle.alg_proof.specs.declared.lines.Line.{Line}

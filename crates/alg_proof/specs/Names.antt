@@ -1,5 +1,5 @@
 -- The names that laws and lemmas may have.
-use Rattle.std.specs.Prelude.{◌≡◌, ℕ, suc, Bool, true, false, ◌&&◌, ◌||◌, not, nat_eq, nat_lt, List, [], ◌∷◌}
+use Rattle.std.specs.Prelude.{◌≡◌, ℕ, Bool, true, false, ◌&&◌, ◌||◌, not, nat_eq, nat_lt, List, [], ◌∷◌}
 
 -- the byte is from the first to the last
 abbrev pub is_from : ℕ → ℕ → ℕ → Bool

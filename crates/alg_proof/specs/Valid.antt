@@ -1,5 +1,5 @@
 -- Which lists of proof lines are valid, and where and why another isn't.
-use Rattle.std.specs.Prelude.{◌≡◌, ℕ, suc, ◌-◌, Bool, ◌&&◌, if◌then◌else◌, List, [], ◌∷◌, ◌++◌, length, Option, Some, None, Ok, Err, slice_get}
+use Rattle.std.specs.Prelude.{◌≡◌, ℕ, suc, ◌-◌, if◌then◌else◌, List, [], ◌∷◌, ◌++◌, length, Option, Some, None, Ok, Err, slice_get}
 use Rattle.alg_terms.specs.declared.causes.BadCause.{BadCause}
 use Rattle.alg_terms.specs.Tree.{Statement}
 use Rattle.alg_proof.specs.Causes.{Concludes, statement_same}

@@ -31,7 +31,10 @@ impl Model for Lemmas {
 
     ghost view = { λ t. map (λ e. e.1.now) t.rows.entries };
 
-    ghost invariant = { λ t. All IsAdmissible (rows_of (map (λ e. e.1.now) t.rows.entries)) × (map (λ e. e.0.now) t.rows.entries ≡ map (λ e. e.1.now.row.name.now) t.rows.entries) };
+    ghost use Rattle.alg_law.specs.LawIndexing.{Indexes};
+    ghost use Rattle.alg_law.specs.Laws.{law_table};
+
+    ghost invariant = { λ t. All IsAdmissible (rows_of (map (λ e. e.1.now) t.rows.entries)) × ((map (λ e. e.0.now) t.rows.entries ≡ map (λ e. e.1.now.row.name.now) t.rows.entries) × Indexes t.laws.table law_table) };
 }
 
 impl Lemmas {

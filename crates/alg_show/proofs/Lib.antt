@@ -1,5 +1,5 @@
 pub mod ArgumentLemmas
-pub mod Looks
+pub mod Visits
 pub mod Turns
 pub mod Levels
 pub mod Passing

@@ -10,7 +10,7 @@ use Rattle.alg_law.specs.Declarations.{Declaration, Carrier, Instance, Variable,
 use Rattle.alg_law.specs.Following.{IsKnown}
 use Rattle.alg_law.specs.WellSorted.{is_type, variable_of, function_of}
 use Rattle.alg_lex.specs.Tokens.{is_name, is_word}
-use Rattle.alg_well_sorted.specs.EnteringLaws.{type_there}
+use Rattle.alg_well_sorted.proofs.EnteringLaws.{type_there}
 use Rattle.alg_show.specs.Names.{name_if, name_at, sort_name}
 use Rattle.alg_show.specs.ReadingBack.{IsNamed, IsWritable, AllWritable}
 

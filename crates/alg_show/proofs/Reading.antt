@@ -26,12 +26,12 @@ use Rattle.alg_elaborate.specs.declared.causes.Cause.{Cause}
 use Rattle.alg_elaborate.specs.declared.causes.Cause.TheVariants as cause
 use Rattle.alg_elaborate.specs.Raw.{Raw, Raws, literal, negation, reciprocal, operation, applied, none, more, count}
 use Rattle.alg_elaborate.specs.Meanings.{type_of, value_sort, is_shared, argument_sorts, symbol_of}
-use Rattle.alg_elaborate.specs.Operations.{power_symbol, multiple_symbol}
+use Rattle.alg_elaborate.specs.Operations.{power_of, multiple_of}
 use Rattle.alg_elaborate.specs.Regions.{parts, either, leaves, leaves_of_each, leaf_sort, or_else, first_known, sort_or, exponent_default, exponent_sort}
 use Rattle.alg_elaborate.specs.Faults.{when, lacks, lacks_by, not_integral, differs, literal_faults, name_faults, sort_name_faults, applied_faults, faults, faults_of_each}
 use Rattle.alg_elaborate.specs.TypedTrees.{tree_where, compound, typed_name, typed, typed_each}
-use Rattle.alg_well_sorted.specs.Parts.{and_true, has_same, classes_same, same_number-self}
-use Rattle.alg_well_sorted.specs.Compounds.{tree_where-true}
+use Rattle.alg_well_sorted.proofs.Parts.{and_true, has_same, classes_same, same_number-self}
+use Rattle.alg_well_sorted.proofs.Compounds.{tree_where-true}
 use Rattle.alg_show.specs.Names.{name_at, sort_name}
 use Rattle.alg_show.specs.Knowing.{knows, default_of, asks}
 use Rattle.alg_show.specs.Unparenthesized.{number_raw, raw}
@@ -233,7 +233,7 @@ module _ (s : Scope) (ds : List Declaration) (st : Stands s ds) where
       off true = refl
       off false = refl
 
-  pub power_reads : (k : Sort) (x e : Tree) (l : Sort) → sort_of_tree e ≡ l → is_integral l ≡ true → ReadsAs k x (λ b. raw ds b x) (knows x) (default_of x) → Reads e → supports s (power_symbol l) k ≡ true → (arity_fits (power_symbol l) 2 && sorts_fit (power_symbol l) k (sort_of_tree x ∷ sort_of_tree e ∷ [])) ≡ true → (kn : Bool) → kn ≡ knows x → ReadsAs k (App (power_symbol l) k (Cons x (Cons e Nil))) (λ b. operation Pow (raw ds b x) (raw ds (asks e) e)) kn Nat
+  pub power_reads : (k : Sort) (x e : Tree) (l : Sort) → sort_of_tree e ≡ l → is_integral l ≡ true → ReadsAs k x (λ b. raw ds b x) (knows x) (default_of x) → Reads e → supports s (power_of l) k ≡ true → (arity_fits (power_of l) 2 && sorts_fit (power_of l) k (sort_of_tree x ∷ sort_of_tree e ∷ [])) ≡ true → (kn : Bool) → kn ≡ knows x → ReadsAs k (App (power_of l) k (Cons x (Cons e Nil))) (λ b. operation Pow (raw ds b x) (raw ds (asks e) e)) kn Nat
   power_reads k x e l h i r q there_ fit kn g =
       let w = raw ds (asks e) e in
       let sort : exponent_sort s w ≡ l = exponent_read e q ∙ h in
@@ -242,17 +242,17 @@ module _ (s : Scope) (ds : List Declaration) (st : Stands s ds) where
         asked = r.asked;
         known = r.known ∙ ap (λ b. known_sort b k) (sym g);
         typed = λ b n.
-            ap (λ m. compound (power_symbol m) k (typed s k (raw ds b x) ∷ typed s m w ∷ [])) sort
-            ∙ (ap (λ z. compound (power_symbol l) k (z ∷ typed s l w ∷ [])) (r.typed b n.0)
-            ∙ (ap (λ z. compound (power_symbol l) k (x ∷ z ∷ [])) (q'.typed (asks e) n.1) ∙ tree_where-true _ _ k fit));
+            ap (λ m. compound (power_of m) k (typed s k (raw ds b x) ∷ typed s m w ∷ [])) sort
+            ∙ (ap (λ z. compound (power_of l) k (z ∷ typed s l w ∷ [])) (r.typed b n.0)
+            ∙ (ap (λ z. compound (power_of l) k (x ∷ z ∷ [])) (q'.typed (asks e) n.1) ∙ tree_where-true _ _ k fit));
         faultless = λ b n.
-            ap (λ m. lacks_by s m (power_symbol m) k ++ (faults s false k (raw ds b x) ++ (not_integral m ++ faults s false m w))) sort
-            ∙ both_none _ _ (no_lack_by l (power_symbol l) k i there_) (both_none _ _ (r.faultless b n.0) (both_none _ _ (integral_ok l i) (q'.faultless (asks e) n.1)));
+            ap (λ m. lacks_by s m (power_of m) k ++ (faults s false k (raw ds b x) ++ (not_integral m ++ faults s false m w))) sort
+            ∙ both_none _ _ (no_lack_by l (power_of l) k i there_) (both_none _ _ (r.faultless b n.0) (both_none _ _ (integral_ok l i) (q'.faultless (asks e) n.1)));
         proper = λ b. (r.proper b, q.proper (asks e));
         default = λ b. refl;
       }
 
-  pub multiple_reads : (k : Sort) (e x : Tree) (l : Sort) → sort_of_tree e ≡ l → is_integral l ≡ true → Reads e → ReadsAs k x (λ b. raw ds b x) (knows x) (default_of x) → supports s (multiple_symbol l) k ≡ true → (arity_fits (multiple_symbol l) 2 && sorts_fit (multiple_symbol l) k (sort_of_tree e ∷ sort_of_tree x ∷ [])) ≡ true → ReadsAs k (App (multiple_symbol l) k (Cons e (Cons x Nil))) (λ b. operation Smul (raw ds (asks e) e) (raw ds b x)) (knows x) Nat
+  pub multiple_reads : (k : Sort) (e x : Tree) (l : Sort) → sort_of_tree e ≡ l → is_integral l ≡ true → Reads e → ReadsAs k x (λ b. raw ds b x) (knows x) (default_of x) → supports s (multiple_of l) k ≡ true → (arity_fits (multiple_of l) 2 && sorts_fit (multiple_of l) k (sort_of_tree e ∷ sort_of_tree x ∷ [])) ≡ true → ReadsAs k (App (multiple_of l) k (Cons e (Cons x Nil))) (λ b. operation Smul (raw ds (asks e) e) (raw ds b x)) (knows x) Nat
   multiple_reads k e x l h i q r there_ fit =
       let w = raw ds (asks e) e in
       let sort : exponent_sort s w ≡ l = exponent_read e q ∙ h in
@@ -261,12 +261,12 @@ module _ (s : Scope) (ds : List Declaration) (st : Stands s ds) where
         asked = r.asked;
         known = r.known;
         typed = λ b n.
-            ap (λ m. compound (multiple_symbol m) k (typed s m w ∷ typed s k (raw ds b x) ∷ [])) sort
-            ∙ (ap (λ z. compound (multiple_symbol l) k (typed s l w ∷ z ∷ [])) (r.typed b n.1)
-            ∙ (ap (λ z. compound (multiple_symbol l) k (z ∷ x ∷ [])) (q'.typed (asks e) n.0) ∙ tree_where-true _ _ k fit));
+            ap (λ m. compound (multiple_of m) k (typed s m w ∷ typed s k (raw ds b x) ∷ [])) sort
+            ∙ (ap (λ z. compound (multiple_of l) k (typed s l w ∷ z ∷ [])) (r.typed b n.1)
+            ∙ (ap (λ z. compound (multiple_of l) k (z ∷ x ∷ [])) (q'.typed (asks e) n.0) ∙ tree_where-true _ _ k fit));
         faultless = λ b n.
-            ap (λ m. lacks_by s m (multiple_symbol m) k ++ ((not_integral m ++ faults s false m w) ++ faults s false k (raw ds b x))) sort
-            ∙ both_none _ _ (no_lack_by l (multiple_symbol l) k i there_) (both_none _ _ (both_none _ _ (integral_ok l i) (q'.faultless (asks e) n.0)) (r.faultless b n.1));
+            ap (λ m. lacks_by s m (multiple_of m) k ++ ((not_integral m ++ faults s false m w) ++ faults s false k (raw ds b x))) sort
+            ∙ both_none _ _ (no_lack_by l (multiple_of l) k i there_) (both_none _ _ (both_none _ _ (integral_ok l i) (q'.faultless (asks e) n.0)) (r.faultless b n.1));
         proper = λ b. (q.proper (asks e), r.proper b);
         default = λ b. refl;
       }

@@ -17,7 +17,7 @@ use Rattle.alg_elaborate.specs.Regions.{leaves, first_known, sort_or}
 use Rattle.alg_elaborate.specs.Faults.{faults}
 use Rattle.alg_elaborate.specs.TypedTrees.{typed}
 use Rattle.alg_elaborate.specs.Statements.{relation_of as read_relation, exchanges, statement_sort, relation_faults, statement_faults, ordered, typed_statement}
-use Rattle.alg_well_sorted.specs.Parts.{has_same}
+use Rattle.alg_well_sorted.proofs.Parts.{has_same}
 use Rattle.alg_show.specs.Notation.{relation_of}
 use Rattle.alg_show.specs.Knowing.{knows, default_of, sides_ask}
 use Rattle.alg_show.specs.Unparenthesized.{raw}

@@ -17,7 +17,7 @@ use Rattle.alg_names.specs.Entering.{enter, entered, IsFresh}
 use Rattle.alg_names.specs.Found.{found}
 use Rattle.alg_names.specs.InForce as in_force
 use Rattle.alg_well_sorted.specs.Agreeing.{Agrees}
-use Rattle.alg_well_sorted.specs.EnteringLaws.{start-follows, entered-follows, type_there}
+use Rattle.alg_well_sorted.proofs.EnteringLaws.{start-follows, entered-follows, type_there}
 use Rattle.alg_show.specs.Names.{name_if, name_at, sort_name}
 use Rattle.alg_show.specs.ReadingBack.{AllNew, at_first, in_force as scope_of}
 

@@ -24,7 +24,7 @@ use Rattle.alg_names.specs.BuiltIn.{one, two}
 use Rattle.alg_elaborate.specs.Raw.{operation, applied}
 use Rattle.alg_names.specs.declared.meanings.Meaning.TheVariants as meaning
 use Rattle.alg_expr.specs.Applying.{arity_fits, sorts_fit}
-use Rattle.alg_well_sorted.specs.Parts.{mark_parts, less_one, none_first, none_last}
+use Rattle.alg_well_sorted.proofs.Parts.{mark_parts, less_one, none_first, none_last}
 use Rattle.alg_show.specs.Names.{name_at}
 use Rattle.alg_show.specs.Knowing.{knows}
 use Rattle.alg_show.specs.Unparenthesized.{raw}

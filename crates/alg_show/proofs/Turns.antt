@@ -19,13 +19,13 @@ use Rattle.alg_show.specs.declared.tasks.Place.TheVariants.{Least, Negated}
 use Rattle.alg_show.specs.declared.tasks.Task.{Task}
 use Rattle.alg_show.specs.declared.tasks.Task.TheVariants.{Close, Inverse, Zero, Operator, Part, Arguments}
 use Rattle.alg_show.specs.Names.{name_at, function_name}
-use Rattle.alg_show.specs.Notation.{notation_of, mark_of, blanked, left_least, right_least}
+use Rattle.alg_show.specs.Notation.{notation_of, operator_text, blanked, left_least, right_least}
 use Rattle.alg_show.specs.Unparenthesized.{raw, raws, later_raws, number_raw, composed, first, second, asks_left, asks_right}
 use Rattle.alg_show.specs.Shown.{is_minus, wrapped, negated, shown, with_arguments, word}
-use Rattle.alg_show.specs.Text.{inverse_mark, text}
+use Rattle.alg_show.specs.Text.{inverse_text, text}
 use Rattle.alg_show.specs.Tasks.{parts_of, IsArgument, is_grouped, placed, argument_raws, arguments_text, task_text, pending, weigh, weigh_all, weigh_list, weight, weights, TaskInside, AllInside, IsNarrow, AreNarrow, TaskNarrow, AllNarrow, Turn, part_task, left_task, right_task, TurnOf, Performs, Wrote}
 use Rattle.alg_show.specs.Shows.{IsWritten, IsSymbol}
-use Rattle.alg_show.proofs.Looks.{FirstIs, behind, first_is, second_is, weight_first, two_weights}
+use Rattle.alg_show.proofs.Visits.{FirstIs, behind, first_is, second_is, weight_first, two_weights}
 
 module _ (ds : List Declaration) (ts : List Tree) where
   pending_append : (us vs : List Task) → pending ds ts (us ++ vs) ≡ pending ds ts vs ++ pending ds ts us
@@ -200,7 +200,7 @@ module _ (ds : List Declaration) (ts : List Tree) where
       (turn old new (Inverse ∷ part_task (Least 100) ask o ∷ []) bytes bytes [] _ _ _
       (q ∙ (ap (λ x. x ++ part_task (Least 100) ask o ∷ []) p ∙ append_assoc old (Inverse ∷ []) (part_task (Least 100) ask o ∷ [])))
       (sym (append-nil bytes))
-      (ap (λ x. x ++ inverse_mark) (ap text (sym (least_placed 100 (shown (first (raws ds notation.Inverse ask xs))))) ∙ sym s.wrote))
+      (ap (λ x. x ++ inverse_text) (ap text (sym (least_placed 100 (shown (first (raws ds notation.Inverse ask xs))))) ∙ sym s.wrote))
       (let l = s.small in let m = one_weight xs in omega arith) (tt, (s.inside, tt)) (λ v. s.narrow v.1.0))
 
   pub operation_turn : (old one two new : List Task) (bytes : List ℕ) (ask : Bool) (e : ExprId) (o : operators.Operator) (a b : Option ExprId) (left right : Task) → IsWritten (tree_of ts e) (notation.Infix o) → IsArgument ts e 0 a → IsArgument ts e 1 b → left ≡ left_task ts o ask a → right ≡ right_task ts o ask b → one ≡ old ++ right ∷ [] → two ≡ one ++ Operator o ∷ [] → new ≡ two ++ left ∷ [] → TurnOf ds ts old new bytes bytes ask e
@@ -214,11 +214,11 @@ module _ (ds : List Declaration) (ts : List Tree) where
       (turn old new (right ∷ Operator o ∷ left ∷ []) bytes bytes [] _ _ _
       (x ∙ (ap (λ y. y ++ left ∷ []) (v ∙ (ap (λ y. y ++ Operator o ∷ []) u ∙ append_assoc old (right ∷ []) (Operator o ∷ []))) ∙ append_assoc old (right ∷ Operator o ∷ []) (left ∷ [])))
       (sym (append-nil bytes))
-      (ap (λ y. text y ++ (32 ∷ (mark_of o ++ (32 ∷ text (wrapped (right_least o) rt))))) (sym (least_placed (left_least o) lt))
-      ∙ (ap (λ y. y ++ (32 ∷ (mark_of o ++ (32 ∷ text (wrapped (right_least o) rt))))) (sym l.wrote)
-      ∙ (ap (λ y. task_text ds ts left ++ (32 ∷ (mark_of o ++ (32 ∷ text y)))) (sym (least_placed (right_least o) rt))
-      ∙ (ap (λ y. task_text ds ts left ++ (32 ∷ (mark_of o ++ (32 ∷ y)))) (sym r.wrote)
-      ∙ blanks (task_text ds ts left) (mark_of o) (task_text ds ts right)))))
+      (ap (λ y. text y ++ (32 ∷ (operator_text o ++ (32 ∷ text (wrapped (right_least o) rt))))) (sym (least_placed (left_least o) lt))
+      ∙ (ap (λ y. y ++ (32 ∷ (operator_text o ++ (32 ∷ text (wrapped (right_least o) rt))))) (sym l.wrote)
+      ∙ (ap (λ y. task_text ds ts left ++ (32 ∷ (operator_text o ++ (32 ∷ text y)))) (sym (least_placed (right_least o) rt))
+      ∙ (ap (λ y. task_text ds ts left ++ (32 ∷ (operator_text o ++ (32 ∷ y)))) (sym r.wrote)
+      ∙ blanks (task_text ds ts left) (operator_text o) (task_text ds ts right)))))
       (let i = l.small in let j = r.small in let m = two_weights xs in omega arith)
       (r.inside, (tt, (l.inside, tt))) (λ y. (l.narrow y.1.1.0, r.narrow y.0)))
     where
@@ -274,8 +274,8 @@ module _ (ds : List Declaration) (ts : List Tree) where
 
   -- ---- tasks
 
-  pub mark_turn : (old : List Task) (bytes more mark : List ℕ) (task t : Task) → task ≡ t → mark ≡ task_text ds ts t → more ≡ bytes ++ mark → 0 < weight ts t → TaskNarrow ds ts t → Performs ds ts old old bytes more task
-  mark_turn old bytes more mark task t e m q l c =
+  pub text_turn : (old : List Task) (bytes more piece : List ℕ) (task t : Task) → task ≡ t → piece ≡ task_text ds ts t → more ≡ bytes ++ piece → 0 < weight ts t → TaskNarrow ds ts t → Performs ds ts old old bytes more task
+  text_turn old bytes more piece task t e m q l c =
       subst (λ x. Performs ds ts old old bytes more x) (sym e) (whole old bytes more (task_text ds ts t) (weight ts t) (TaskNarrow ds ts t) (q ∙ ap (λ x. bytes ++ x) m) l c)
 
   pub grouped_turn : (old one new : List Task) (bytes mid more : List ℕ) (p : Place) (ask : Bool) (e : ExprId) → is_grouped p (shown (raw ds ask (tree_of ts e))) ≡ true → mid ≡ bytes ++ 40 ∷ [] → one ≡ old ++ Close ∷ [] → TurnOf ds ts one new mid more ask e → Performs ds ts old new bytes more (Part p ask e)

@@ -10,7 +10,7 @@ use Rattle.alg_syntax.specs.Expressions as expressions
 use Rattle.alg_show.specs.declared.tasks.Place.TheVariants.{Least}
 use Rattle.alg_show.specs.declared.tasks.Task.{Task}
 use Rattle.alg_show.specs.declared.tasks.Task.TheVariants.{Relation, Part}
-use Rattle.alg_show.specs.Notation.{relation_mark, blanked}
+use Rattle.alg_show.specs.Notation.{relation_text, blanked}
 use Rattle.alg_show.specs.Knowing.{sides_ask}
 use Rattle.alg_show.specs.Unparenthesized.{raw}
 use Rattle.alg_show.specs.Shown.{shown}
@@ -43,10 +43,10 @@ wrote_statement ds ts s ask tasks bytes after e p q w =
       w.0
           ∙ (ap (λ x. x ++ pending ds ts tasks) q
           ∙ (ap (pending ds ts) p
-          ∙ (ap (λ x. (text x ++ blanked (relation_mark s.rel)) ++ text (placed (Least 0) r)) (free l)
-          ∙ (ap (λ x. (text l ++ blanked (relation_mark s.rel)) ++ text x) (free r)
-          ∙ (blanks (text l) (relation_mark s.rel) (text r)
-          ∙ ap (λ b. text (shown (raw ds b (tree_of ts s.lhs))) ++ (32 ∷ (relation_mark s.rel ++ (32 ∷ text r)))) e))))),
+          ∙ (ap (λ x. (text x ++ blanked (relation_text s.rel)) ++ text (placed (Least 0) r)) (free l)
+          ∙ (ap (λ x. (text l ++ blanked (relation_text s.rel)) ++ text x) (free r)
+          ∙ (blanks (text l) (relation_text s.rel) (text r)
+          ∙ ap (λ b. text (shown (raw ds b (tree_of ts s.lhs))) ++ (32 ∷ (relation_text s.rel ++ (32 ∷ text r)))) e))))),
       (subst (λ b. IsNarrow (raw ds b (tree_of ts s.lhs))) e n.1.1.0, n.0),
     )
 

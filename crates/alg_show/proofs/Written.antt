@@ -22,8 +22,8 @@ use Rattle.alg_syntax.specs.declared.signs.Sign.{Sign}
 use Rattle.alg_syntax.specs.declared.signs.Sign.TheVariants.{Number, Name, Open, Close, Operator, Inverse, Relation, Fixed}
 use Rattle.alg_syntax.specs.declared.signs.Fixed.TheVariants.{Colon}
 use Rattle.alg_syntax.specs.Expressions.{Tree, number, name, group, ascribed, minus, inverse, binary, apply, spell}
-use Rattle.alg_show.specs.Notation.{mark_of, relation_mark, relation_of}
-use Rattle.alg_show.specs.Text.{text, inverse_mark}
+use Rattle.alg_show.specs.Notation.{operator_text, relation_text, relation_of}
+use Rattle.alg_show.specs.Text.{text, inverse_text}
 use Rattle.alg_show.specs.Groups.{first_minus}
 use Rattle.alg_show.specs.ReadingBack.{IsNamed}
 use Rattle.alg_show.proofs.Passing.{Passes, both, blank, mark, mark_blank, front, front_of, blank_front, other, literal, all_digits, name as name_passes}
@@ -60,7 +60,7 @@ close_utf8 : IsUtf8 (41 ∷ [])
 unfolding lib.Utf8.encode
 close_utf8 = (41 ∷ [], (refl, refl))
 
-inverse_utf8 : IsUtf8 inverse_mark
+inverse_utf8 : IsUtf8 inverse_text
 unfolding lib.Utf8.encode
 inverse_utf8 = (0x207B ∷ 0xB9 ∷ [], (refl, refl))
 
@@ -76,9 +76,9 @@ ends_close : (rest : List ℕ) → Ends (41 ∷ rest)
 unfolding unicode_ident close_utf8
 ends_close rest = ends_at (41 ∷ rest) 41 (front_of (41 ∷ []) rest 41 [] close_utf8 refl) refl refl refl
 
-ends_inverse : (rest : List ℕ) → Ends (inverse_mark ++ rest)
+ends_inverse : (rest : List ℕ) → Ends (inverse_text ++ rest)
 unfolding unicode_ident inverse_utf8
-ends_inverse rest = ends_at (inverse_mark ++ rest) 0x207B (front_of inverse_mark rest 0x207B (0xB9 ∷ []) inverse_utf8 refl) refl refl refl
+ends_inverse rest = ends_at (inverse_text ++ rest) 0x207B (front_of inverse_text rest 0x207B (0xB9 ∷ []) inverse_utf8 refl) refl refl refl
 
 pub ends_nil : Ends []
 unfolding unicode_ident
@@ -94,9 +94,9 @@ closes : (rest : List ℕ) → Passes (41 ∷ []) (Close ∷ []) rest
 unfolding unicode_ident close_utf8
 closes rest = mark (41 ∷ []) rest 41 [] close_utf8 refl refl refl refl refl
 
-inverts : (rest : List ℕ) → Passes inverse_mark (Inverse ∷ []) rest
+inverts : (rest : List ℕ) → Passes inverse_text (Inverse ∷ []) rest
 unfolding unicode_ident inverse_utf8
-inverts rest = mark inverse_mark rest 0x207B (0xB9 ∷ []) inverse_utf8 refl refl refl refl refl
+inverts rest = mark inverse_text rest 0x207B (0xB9 ∷ []) inverse_utf8 refl refl refl refl refl
 
 pub colon : (rest : List ℕ) → Passes (58 ∷ []) (Fixed Colon ∷ []) (32 ∷ rest)
 unfolding unicode_ident lib.Utf8.encode
@@ -109,23 +109,23 @@ dashes : (rest : List ℕ) → (front rest == 45) ≡ false → nat_eq (front re
 unfolding unicode_ident dash_utf8
 dashes rest e f = mark (45 ∷ []) rest 45 [] dash_utf8 refl refl e refl (ap (λ b. cond b (SignPiece, 1) (SignPiece, 0)) (dash_mark (front rest) f))
 
-operates : (p : operators.Operator) (rest : List ℕ) → Passes (mark_of p) (Operator p ∷ []) (32 ∷ rest)
+operates : (p : operators.Operator) (rest : List ℕ) → Passes (operator_text p) (Operator p ∷ []) (32 ∷ rest)
 unfolding unicode_ident lib.Utf8.encode
 operates o.Add rest = mark_blank (43 ∷ []) rest 43 (43 ∷ [], (refl, refl)) refl refl refl refl refl
 operates o.Sub rest = mark_blank (45 ∷ []) rest 45 (45 ∷ [], (refl, refl)) refl refl refl refl refl
 operates o.Mul rest = mark_blank (42 ∷ []) rest 42 (42 ∷ [], (refl, refl)) refl refl refl refl refl
 operates o.Div rest = mark_blank (47 ∷ []) rest 47 (47 ∷ [], (refl, refl)) refl refl refl refl refl
 operates o.Mod rest = mark_blank (37 ∷ []) rest 37 (37 ∷ [], (refl, refl)) refl refl refl refl refl
-operates o.Smul rest = mark_blank (mark_of o.Smul) rest 0x2022 (0x2022 ∷ [], (refl, refl)) refl refl refl refl refl
+operates o.Smul rest = mark_blank (operator_text o.Smul) rest 0x2022 (0x2022 ∷ [], (refl, refl)) refl refl refl refl refl
 operates o.Pow rest = mark_blank (94 ∷ []) rest 94 (94 ∷ [], (refl, refl)) refl refl refl refl refl
 
-relates : (r : Rel) (rest : List ℕ) → Passes (relation_mark r) (Relation (relation_of r) ∷ []) (32 ∷ rest)
+relates : (r : Rel) (rest : List ℕ) → Passes (relation_text r) (Relation (relation_of r) ∷ []) (32 ∷ rest)
 unfolding unicode_ident lib.Utf8.encode
 relates rel.Eq rest = mark_blank (61 ∷ []) rest 61 (61 ∷ [], (refl, refl)) refl refl refl refl refl
-relates rel.Ne rest = mark_blank (relation_mark rel.Ne) rest 0x2260 (0x2260 ∷ [], (refl, refl)) refl refl refl refl refl
+relates rel.Ne rest = mark_blank (relation_text rel.Ne) rest 0x2260 (0x2260 ∷ [], (refl, refl)) refl refl refl refl refl
 relates rel.Lt rest = mark_blank (60 ∷ []) rest 60 (60 ∷ [], (refl, refl)) refl refl refl refl refl
-relates rel.Le rest = mark_blank (relation_mark rel.Le) rest 0x2264 (0x2264 ∷ [], (refl, refl)) refl refl refl refl refl
-relates rel.Dvd rest = mark_blank (relation_mark rel.Dvd) rest 0x2223 (0x2223 ∷ [], (refl, refl)) refl refl refl refl refl
+relates rel.Le rest = mark_blank (relation_text rel.Le) rest 0x2264 (0x2264 ∷ [], (refl, refl)) refl refl refl refl refl
+relates rel.Dvd rest = mark_blank (relation_text rel.Dvd) rest 0x2223 (0x2223 ∷ [], (refl, refl)) refl refl refl refl refl
 
 -- ---- names and fronts
 
@@ -202,22 +202,22 @@ passes (minus a) rest h e =
     let p = plain_front a rest h.1 h.0 in
     both (45 ∷ []) (text a) (Operator o.Sub ∷ []) (spell a) rest (dashes (text a ++ rest) p.0 p.1) (passes a rest h.1 e)
 passes (inverse a) rest h e =
-    both (text a) inverse_mark (spell a) (Inverse ∷ []) rest (passes a _ h (ends_inverse rest)) (inverts rest)
+    both (text a) inverse_text (spell a) (Inverse ∷ []) rest (passes a _ h (ends_inverse rest)) (inverts rest)
 passes (binary p a b) rest h e =
-    both (text a) (32 ∷ (mark_of p ++ (32 ∷ text b))) (spell a) (Operator p ∷ spell b) rest (passes a _ h.0 (ends_blank _))
-    (both (32 ∷ []) (mark_of p ++ (32 ∷ text b)) [] (Operator p ∷ spell b) rest (blank _)
-    (both (mark_of p) (32 ∷ text b) (Operator p ∷ []) (spell b) rest (operates p (text b ++ rest))
+    both (text a) (32 ∷ (operator_text p ++ (32 ∷ text b))) (spell a) (Operator p ∷ spell b) rest (passes a _ h.0 (ends_blank _))
+    (both (32 ∷ []) (operator_text p ++ (32 ∷ text b)) [] (Operator p ∷ spell b) rest (blank _)
+    (both (operator_text p) (32 ∷ text b) (Operator p ∷ []) (spell b) rest (operates p (text b ++ rest))
     (both (32 ∷ []) (text b) [] (spell b) rest (blank _) (passes b rest h.1 e))))
 passes (apply a b) rest h e =
     both (text a) (32 ∷ text b) (spell a) (spell b) rest (passes a _ h.0 (ends_blank _))
     (both (32 ∷ []) (text b) [] (spell b) rest (blank _) (passes b rest h.1 e))
 
 -- a relation between two
-pub sides_pass : (a b : Tree) (r : Rel) (rest : List ℕ) → Legible a → Legible b → Ends rest → Passes (text a ++ (32 ∷ (relation_mark r ++ (32 ∷ text b)))) (spell a ++ Relation (relation_of r) ∷ spell b) rest
+pub sides_pass : (a b : Tree) (r : Rel) (rest : List ℕ) → Legible a → Legible b → Ends rest → Passes (text a ++ (32 ∷ (relation_text r ++ (32 ∷ text b)))) (spell a ++ Relation (relation_of r) ∷ spell b) rest
 sides_pass a b r rest h k e =
-    both (text a) (32 ∷ (relation_mark r ++ (32 ∷ text b))) (spell a) (Relation (relation_of r) ∷ spell b) rest (passes a _ h (ends_blank _))
-    (both (32 ∷ []) (relation_mark r ++ (32 ∷ text b)) [] (Relation (relation_of r) ∷ spell b) rest (blank _)
-    (both (relation_mark r) (32 ∷ text b) (Relation (relation_of r) ∷ []) (spell b) rest (relates r (text b ++ rest))
+    both (text a) (32 ∷ (relation_text r ++ (32 ∷ text b))) (spell a) (Relation (relation_of r) ∷ spell b) rest (passes a _ h (ends_blank _))
+    (both (32 ∷ []) (relation_text r ++ (32 ∷ text b)) [] (Relation (relation_of r) ∷ spell b) rest (blank _)
+    (both (relation_text r) (32 ∷ text b) (Relation (relation_of r) ∷ []) (spell b) rest (relates r (text b ++ rest))
     (both (32 ∷ []) (text b) [] (spell b) rest (blank _) (passes b rest k e))))
 
 -- nothing stands behind it

@@ -67,22 +67,22 @@ abbrev pub right_least : Operator → ℕ
 right_least o = right_of (tier o)
 
 -- + - * / % • ^ as bytes
-abbrev pub mark_of : Operator → List ℕ
-mark_of Add = 43 ∷ []
-mark_of Sub = 45 ∷ []
-mark_of Mul = 42 ∷ []
-mark_of Div = 47 ∷ []
-mark_of Mod = 37 ∷ []
-mark_of Smul = 0xE2 ∷ 0x80 ∷ 0xA2 ∷ []
-mark_of Pow = 94 ∷ []
+abbrev pub operator_text : Operator → List ℕ
+operator_text Add = 43 ∷ []
+operator_text Sub = 45 ∷ []
+operator_text Mul = 42 ∷ []
+operator_text Div = 47 ∷ []
+operator_text Mod = 37 ∷ []
+operator_text Smul = 0xE2 ∷ 0x80 ∷ 0xA2 ∷ []
+operator_text Pow = 94 ∷ []
 
 -- = ≠ < ≤ ∣ as bytes; > and ≥ are never written
-abbrev pub relation_mark : Rel → List ℕ
-relation_mark rel.Eq = 61 ∷ []
-relation_mark rel.Ne = 0xE2 ∷ 0x89 ∷ 0xA0 ∷ []
-relation_mark rel.Lt = 60 ∷ []
-relation_mark rel.Le = 0xE2 ∷ 0x89 ∷ 0xA4 ∷ []
-relation_mark rel.Dvd = 0xE2 ∷ 0x88 ∷ 0xA3 ∷ []
+abbrev pub relation_text : Rel → List ℕ
+relation_text rel.Eq = 61 ∷ []
+relation_text rel.Ne = 0xE2 ∷ 0x89 ∷ 0xA0 ∷ []
+relation_text rel.Lt = 60 ∷ []
+relation_text rel.Le = 0xE2 ∷ 0x89 ∷ 0xA4 ∷ []
+relation_text rel.Dvd = 0xE2 ∷ 0x88 ∷ 0xA3 ∷ []
 
 abbrev pub relation_of : Rel → Relation
 relation_of rel.Eq = relation.Eq
@@ -93,4 +93,4 @@ relation_of rel.Dvd = relation.Dvd
 
 -- with a blank on each side
 abbrev pub blanked : List ℕ → List ℕ
-blanked mark = 32 ∷ (mark ++ 32 ∷ [])
+blanked text = 32 ∷ (text ++ 32 ∷ [])

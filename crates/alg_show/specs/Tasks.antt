@@ -15,11 +15,11 @@ use Rattle.alg_show.specs.declared.tasks.Place.{Place}
 use Rattle.alg_show.specs.declared.tasks.Place.TheVariants.{Least, Negated}
 use Rattle.alg_show.specs.declared.tasks.Task.{Task}
 use Rattle.alg_show.specs.declared.tasks.Task.TheVariants.{Close, Inverse, Zero, Operator, Relation, Part, Arguments}
-use Rattle.alg_show.specs.Notation.{mark_of, relation_mark, blanked, operation_level, left_least, right_least}
+use Rattle.alg_show.specs.Notation.{operator_text, relation_text, blanked, operation_level, left_least, right_least}
 use Rattle.alg_show.specs.Unparenthesized.{raw, asks_left, asks_right}
 use Rattle.alg_show.specs.Knowing.{sides_ask}
 use Rattle.alg_show.specs.Shown.{is_minus, wrapped, shown}
-use Rattle.alg_show.specs.Text.{inverse_mark, text}
+use Rattle.alg_show.specs.Text.{inverse_text, text}
 
 -- the arguments of a compound
 abbrev pub parts_of : Tree → List Tree
@@ -50,10 +50,10 @@ arguments_text (more a us) = 32 ∷ (text (wrapped 100 (shown a)) ++ arguments_t
 
 abbrev pub task_text : List Declaration → List Tree → Task → List ℕ
 task_text ds ts Close = 41 ∷ []
-task_text ds ts Inverse = inverse_mark
+task_text ds ts Inverse = inverse_text
 task_text ds ts Zero = decimal 0
-task_text ds ts (Operator o) = blanked (mark_of o)
-task_text ds ts (Relation r) = blanked (relation_mark r)
+task_text ds ts (Operator o) = blanked (operator_text o)
+task_text ds ts (Relation r) = blanked (relation_text r)
 task_text ds ts (Part p ask e) = text (placed p (shown (raw ds ask (tree_of ts e))))
 task_text ds ts (Arguments ask e k) = arguments_text (argument_raws ds ask (drop k (parts_of (tree_of ts e))))
 

@@ -1,4 +1,4 @@
--- Parts of a region that wait to be looked at, the newest last.
+-- Parts of a region that wait to be visited, the newest last.
 use Rattle.std.specs.Prelude.{◌≡◌, ℕ, ◌+◌, ◌<◌, List, [], ◌∷◌, Bool, true, false, ◌||◌, Option, Some, None, ⊤}
 use Rattle.alg_terms.specs.Tree.{Tree}
 use Rattle.alg_expr.specs.declared.ids.ExprId.{ExprId}
@@ -25,8 +25,8 @@ waits true (Some e) = e ∷ []
 waits true None = []
 waits false o = []
 
--- A look at a tree: its region has such a leaf at once, or its parts wait in its place.
-pub record Looked (ts : List Tree) (e : ExprId) (found : Bool) (old new : List ExprId) : Type 0 where
+-- A visit of a tree: its region has such a leaf at once, or its parts wait in its place.
+pub record Visited (ts : List Tree) (e : ExprId) (found : Bool) (old new : List ExprId) : Type 0 where
   pub same : (any_knows ts old || knows (tree_of ts e)) ≡ (found || any_knows ts new)
   pub less : total ts new < total ts old + weigh (tree_of ts e)
   pub inside : AllIn ts old → AllIn ts new

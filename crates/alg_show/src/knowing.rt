@@ -1,10 +1,9 @@
-ghost use Rattle.std.specs.Prelude.{◌≡◌, ◌++◌, IfOk, IfSome};
+ghost use Rattle.std.specs.Prelude.{◌≡◌, ◌++◌, IfOk};
 ghost use Rattle.alg_expr.specs.Ids.{tree_of, IsIn};
 ghost use Rattle.alg_show.specs.Knowing.{knows, asks, sides_ask, default_of, holds_first, holds_second, is_own};
-ghost use Rattle.alg_show.specs.Notation.{notation_of};
 ghost use Rattle.alg_show.specs.Shows.{IsWritten};
 ghost use Rattle.alg_show.specs.Unparenthesized.{asks_left, asks_right};
-ghost use Rattle.alg_show.specs.Waiting.{waits, Looked};
+ghost use Rattle.alg_show.specs.Waiting.{waits, Visited};
 
 use crate::notation::{Notation, follows, leads, notation_of};
 use crate::printing::argument;
@@ -56,7 +55,7 @@ fn wait(waiting: &mut Vec<ExprId>, holds: bool, id: Option<ExprId>) -> Result<()
 }
 
 // the parts of a compound that belong to its region wait
-fn look_inside(
+fn visit_inside(
     arena: &Arena,
     id: ExprId,
     notation: Notation,
@@ -64,7 +63,7 @@ fn look_inside(
 ) -> Result<bool, Memory>
     requires here { IsIn arena.now id }
     requires written { IsWritten (tree_of arena.now id) notation }
-    ensures { IfOk result (λ found. Looked arena.now id found waiting.old.items waiting.new.items) }
+    ensures { IfOk result (λ found. Visited arena.now id found waiting.old.items waiting.new.items) }
 {
     if is_own(notation) {
         return Ok(true);
@@ -76,14 +75,14 @@ fn look_inside(
     Ok(false)
 }
 
-fn look(arena: &Arena, id: ExprId, waiting: &mut Vec<ExprId>) -> Result<bool, Memory>
+fn visit(arena: &Arena, id: ExprId, waiting: &mut Vec<ExprId>) -> Result<bool, Memory>
     requires { IsIn arena.now id }
-    ensures { IfOk result (λ found. Looked arena.now id found waiting.old.items waiting.new.items) }
+    ensures { IfOk result (λ found. Visited arena.now id found waiting.old.items waiting.new.items) }
 {
     match arena.view(id) {
         View::Lit { .. } => Ok(false),
         View::Var { .. } => Ok(true),
-        View::App { sym, .. } => look_inside(arena, id, notation_of(sym), waiting),
+        View::App { sym, .. } => visit_inside(arena, id, notation_of(sym), waiting),
     }
 }
 
@@ -95,7 +94,7 @@ fn knows(alloc: Global, arena: &Arena, id: ExprId) -> Result<bool, Memory>
     let mut waiting: Vec<ExprId> = Vec::new(alloc);
     wait(&mut waiting, true, Some(id))?;
     while let Some(next) = waiting.pop() {
-        let found = look(arena, next, &mut waiting)?;
+        let found = visit(arena, next, &mut waiting)?;
         if found {
             return Ok(true);
         }

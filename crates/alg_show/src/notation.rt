@@ -1,5 +1,5 @@
 ghost use Rattle.std.specs.Prelude.{◌≡◌};
-ghost use Rattle.alg_show.specs.Notation.{notation_of, leads, follows, operation_level, left_least, right_least, mark_of, relation_mark, blanked};
+ghost use Rattle.alg_show.specs.Notation.{notation_of, leads, follows, operation_level, left_least, right_least, operator_text, relation_text, blanked};
 
 use alg_expr::{Rel, Sym};
 use alg_syntax::signs::Operator;
@@ -94,8 +94,8 @@ pub(crate) fn right_least(operator: Operator) -> u8
     }
 }
 
-pub(crate) fn operator_mark(operator: Operator) -> &'static str
-    ensures { result.now ≡ blanked (mark_of operator) }
+pub(crate) fn operator_text(operator: Operator) -> &'static str
+    ensures { result.now ≡ blanked (operator_text operator) }
 {
     match operator {
         Operator::Add => " + ",
@@ -108,8 +108,8 @@ pub(crate) fn operator_mark(operator: Operator) -> &'static str
     }
 }
 
-pub(crate) fn relation_mark(rel: Rel) -> &'static str
-    ensures { result.now ≡ blanked (relation_mark rel) }
+pub(crate) fn relation_text(rel: Rel) -> &'static str
+    ensures { result.now ≡ blanked (relation_text rel) }
 {
     match rel {
         Rel::Eq => " = ",

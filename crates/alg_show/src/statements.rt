@@ -1,4 +1,4 @@
-ghost use Rattle.std.specs.Prelude.{◌≡◌, ◌+◌, ◌++◌, ◌∷◌, [], ℕ, List, Bool, IfOk, IfSome, string_bytes};
+ghost use Rattle.std.specs.Prelude.{◌≡◌, ◌++◌, ◌∷◌, [], ℕ, List, Bool, IfOk, IfSome, string_bytes};
 ghost use Rattle.alg_expr.specs.Ids.{tree_of, statement_of, IsIn, IsStatementIn};
 ghost use Rattle.alg_law.specs.Declarations.{Declaration};
 ghost use Rattle.alg_law.specs.WellSorted.{IsStatement};
@@ -18,7 +18,7 @@ ghost use Rattle.alg_show.specs.Unparenthesized.{raw, number_raw};
 use crate::knowing::{asks_left, asks_right, sides_ask};
 use crate::names::{function_name, name_at, sort_name};
 use crate::notation::{
-    Notation, left_least, notation_of, operation_level, operator_mark, relation_mark, right_least,
+    Notation, left_least, notation_of, operation_level, operator_text, relation_text, right_least,
 };
 use crate::printing::{add, argument, part, write, write_number};
 use crate::tasks::{Place, Task};
@@ -302,8 +302,8 @@ fn step(
         Task::Close => write(out, ")")?,
         Task::Inverse => write(out, "\u{207B}\u{B9}")?,
         Task::Zero => write_number(out, 0)?,
-        Task::Operator(operator) => write(out, operator_mark(operator))?,
-        Task::Relation(rel) => write(out, relation_mark(rel))?,
+        Task::Operator(operator) => write(out, operator_text(operator))?,
+        Task::Relation(rel) => write(out, relation_text(rel))?,
         Task::Part(place, ask, id) => {
             show_part(alloc, base, arena, place, ask, id, tasks, out)?;
         }

@@ -11,3 +11,4 @@ pub mod TreeOrder
 pub mod Exponents
 pub mod Convolving
 pub mod OverAtoms
+pub mod Merging

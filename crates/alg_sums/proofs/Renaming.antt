@@ -1,5 +1,5 @@
 -- Terms with other names for their keys.
-use Rattle.std.proofs.Common.{◌≡◌, List, [], ◌∷◌, Bool, true, false, cond, refl, ap, ap₂, sym, ◌∙◌, Ordering, Less, Equal, Greater}
+use Rattle.std.proofs.Common.{◌≡◌, List, [], ◌∷◌, Bool, true, false, cond, refl, ap, ap₂, ◌∙◌, Ordering, Less, Equal, Greater}
 use Rattle.std.specs.Ordering.{match_ordering}
 use Rattle.alg_sums.specs.Coefficients.{Coefficients}
 use Rattle.alg_sums.specs.Sum.{insert_term, normal_of, AllTerms, renamed}

@@ -1,9 +1,8 @@
 -- Sizes of elements over common denominators.
-use Rattle.std.proofs.Common.{◌≡◌, ℕ, zero, suc, ◌+◌, ◌*◌, ◌/◌, ◌%◌, ◌<◌, ◌≤◌, ◌^◌, Bool, true, false, cond, arith, refl, ap, ap₂, sym, ◌∙◌, subst}
+use Rattle.std.proofs.Common.{◌≡◌, ℕ, zero, suc, ◌+◌, ◌*◌, ◌/◌, ◌%◌, ◌≤◌, ◌^◌, Bool, true, false, cond, arith, refl, ap, ap₂, sym, ◌∙◌, subst}
 use Rattle.std.specs.Prelude.{◌==◌}
 use Rattle.std.proofs.lemmas.Nat.{div-add-mod'}
 use Rattle.std.proofs.Math.Nat.{mul-mod_left, mul-div_cancel}
-use Rattle.alg_num.proofs.IntegerLaws.{cancel_ℕ}
 use Rattle.alg_sums.specs.Coefficients.{Coefficients}
 use Rattle.alg_sums.specs.Size.{is_whole, size_of, IsScaled}
 

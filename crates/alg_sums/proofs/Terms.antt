@@ -1,5 +1,5 @@
 -- What holds of each term of a list.
-use Rattle.std.proofs.Common.{◌≡◌, List, [], ◌∷◌, ◌++◌, Bool, true, false, cond, refl, Ordering, Less, Equal, Greater}
+use Rattle.std.proofs.Common.{List, [], ◌∷◌, ◌++◌, Bool, true, false, cond, Ordering, Less, Equal, Greater}
 use Rattle.std.specs.Ordering.{match_ordering}
 use Rattle.alg_sums.specs.Coefficients.{Coefficients}
 use Rattle.alg_sums.specs.Sum.{insert_term, normal_of, AllTerms}

@@ -6,4 +6,7 @@ pub mod Exponents
 pub mod Ratio
 pub mod RatioRing
 pub mod RatioSizes
+pub mod Inverse
+pub mod Merging
 pub mod Rational
+pub mod Integers

@@ -1,17 +1,17 @@
 -- Fractions in lowest terms as the elements of a commutative ring.
-use Rattle.std.proofs.Common.{◌≡◌, ℕ, zero, suc, ◌+◌, ◌*◌, ◌-◌, ◌<◌, ◌≤◌, ℤ, pos, neg_ℤ, ◌+ℤ◌, ◌*ℤ◌, Bool, true, arith, refl, ap, ap₂, sym, ◌∙◌, subst}
+use Rattle.std.proofs.Common.{◌≡◌, ℕ, suc, ◌*◌, ◌-◌, ◌<◌, ℤ, pos, ◌*ℤ◌, Bool, true, arith, refl, ap, sym, ◌∙◌, subst}
 use Rattle.std.specs.Prelude.{unsigned_abs, ◌==◌}
 use Rattle.std.specs.Int.{IsGcd}
 use Rattle.std.proofs.lemmas.Nat.Gcd.{same_from_IsGcd}
 use Rattle.std.proofs.Math.Bool.{Bool-set}
 use Rattle.alg_num.specs.Fraction.{Fraction, IsSameValue}
 use Rattle.alg_num.specs.LowestTerms.{IsInLowestTerms, Reduces}
-use Rattle.alg_num.proofs.LowestTermsLaws.{fraction_equal, lowest_terms_equal, IsSameValue-sym, IsSameValue-trans}
+use Rattle.alg_num.proofs.LowestTermsLaws.{lowest_terms_equal, IsSameValue-sym, IsSameValue-trans}
 use Rattle.alg_num.specs.Reduced.{greatest_divisor, reduced}
 use Rattle.alg_num.proofs.ReducedLaws.{IsGcd-greatest_divisor, Reduces-reduced}
 use Rattle.alg_num.specs.Sum.{sum_of}
 use Rattle.alg_num.specs.Product.{product_of}
-use Rattle.alg_num.proofs.FractionLaws.{sum_of-comm, sum_of-assoc, sum_of-same, product_of-comm, product_of-assoc, product_of-same, product_of-sum_of}
+use Rattle.alg_num.proofs.FractionLaws.{sum_of-comm, sum_of-assoc, sum_of-same, product_of-same, product_of-sum_of}
 
 -- whether the numbers are coprime
 abbrev pub are_coprime : ℤ → ℕ → Bool

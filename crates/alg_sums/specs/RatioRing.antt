@@ -1,16 +1,16 @@
 -- The ring of ratios.
-use Rattle.std.proofs.Common.{◌≡◌, ℕ, zero, suc, ◌+◌, ◌*◌, ◌/◌, ◌%◌, ◌<◌, ◌≤◌, ◌^◌, ℤ, pos, negsuc, ◌+ℤ◌, ◌*ℤ◌, neg_ℤ, Bool, true, false, cond, arith, refl, ap, ap₂, sym, ◌∙◌, subst}
+use Rattle.std.proofs.Common.{◌≡◌, ℕ, suc, ◌+◌, ◌*◌, ℤ, pos, ◌+ℤ◌, ◌*ℤ◌, neg_ℤ, Bool, true, arith, refl, ap, ap₂, sym, ◌∙◌, subst}
 use Rattle.std.specs.Prelude.{unsigned_abs, ◌==◌}
-use Rattle.std.proofs.lemmas.Int.{ints, unsigned_abs-mul}
-use Rattle.std.proofs.Math.Nat.{mul-mod_left, one-dvd}
-use Rattle.alg_num.proofs.IntegerLaws.{as_difference, differences, difference-same, *ℤ_swap_middle}
-use Rattle.alg_num.specs.Fraction.{Fraction, IsSameValue}
+use Rattle.std.proofs.lemmas.Int.{ints}
+use Rattle.std.proofs.Math.Nat.{one-dvd}
+use Rattle.alg_num.proofs.IntegerLaws.{as_difference, differences, difference-same}
+use Rattle.alg_num.specs.Fraction.{IsSameValue}
 use Rattle.alg_num.proofs.LowestTermsLaws.{IsSameValue-sym, IsSameValue-trans}
 use Rattle.alg_num.specs.Sum.{sum_of}
 use Rattle.alg_num.specs.Product.{product_of}
 use Rattle.alg_num.proofs.FractionLaws.{product_of-comm, product_of-assoc, product_of-same}
 use Rattle.alg_num.specs.Reduced.{greatest_divisor, divisor_by_steps}
-use Rattle.alg_sums.specs.Ratio.{Ratio, fraction, are_coprime, coprime_of, ratio_equal, plus, times, plus-value, times-value, plus_comm, plus_assoc, times_plus, product_positive, three_positive}
+use Rattle.alg_sums.specs.Ratio.{Ratio, fraction, are_coprime, coprime_of, ratio_equal, plus, times, plus-value, times-value, product_positive, three_positive}
 
 pub coprime_zero : are_coprime (pos 0) 1 ≡ true
 unfolding greatest_divisor divisor_by_steps

@@ -1,12 +1,12 @@
 -- Numerators of sums and products of ratios over common denominators.
-use Rattle.std.proofs.Common.{◌≡◌, ℕ, suc, ◌+◌, ◌*◌, ◌/◌, ◌≤◌, ℤ, pos, ◌+ℤ◌, ◌*ℤ◌, arith, refl, ap, ap₂, sym, subst, ◌∙◌}
+use Rattle.std.proofs.Common.{◌≡◌, ℕ, suc, ◌+◌, ◌*◌, ◌/◌, ◌≤◌, ℤ, pos, ◌+ℤ◌, ◌*ℤ◌, arith, ap, ap₂, sym, subst, ◌∙◌}
 use Rattle.std.specs.Prelude.{unsigned_abs}
 use Rattle.std.specs.Int.{◌∣◌}
 use Rattle.std.proofs.lemmas.Int.{ints, unsigned_abs-mul}
 use Rattle.std.proofs.Math.Nat.{div-mul_cancel, dvd-mul_left}
 use Rattle.alg_num.proofs.IntegerLaws.{as_difference, differences, difference-same, +ℤ-*ℤ, cancel_ℕ}
 use Rattle.alg_num.proofs.CoprimeLaws.{divides_other}
-use Rattle.alg_num.specs.Fraction.{Fraction, IsSameValue}
+use Rattle.alg_num.specs.Fraction.{IsSameValue}
 use Rattle.alg_num.proofs.LowestTermsLaws.{IsSameValue-trans}
 use Rattle.alg_num.specs.Sum.{sum_of}
 use Rattle.alg_num.specs.Product.{product_of}

@@ -1,5 +1,5 @@
 -- Fractions in lowest terms as coefficients.
-use Rattle.std.proofs.Common.{◌≡◌, ℕ, zero, suc, ◌*◌, ◌<◌, ℤ, pos, negsuc, neg_ℤ, ◌+ℤ◌, ◌*ℤ◌, ◌≤ℤ◌, Bool, true, false, cond, arith, refl, ap, ap₂, sym, subst, ◌∙◌}
+use Rattle.std.proofs.Common.{◌≡◌, ℕ, zero, suc, ◌*◌, ◌<◌, ℤ, pos, negsuc, neg_ℤ, ◌+ℤ◌, ◌*ℤ◌, ◌≤ℤ◌, Bool, true, false, cond, arith, refl, ap, sym, subst, ◌∙◌}
 use Rattle.std.specs.Prelude.{unsigned_abs}
 use Rattle.std.specs.Int.{IsGcd}
 use Rattle.std.proofs.lemmas.Int.{ints}
@@ -9,10 +9,11 @@ use Rattle.alg_num.proofs.LowestTermsLaws.{IsSameValue-trans}
 use Rattle.alg_num.specs.Sum.{sum_of}
 use Rattle.alg_num.specs.Product.{product_of}
 use Rattle.alg_sums.specs.Ratio.{Ratio, fraction, are_coprime, coprime_of, lowest, ratio_equal, plus, times, plus-value, times-value, product_positive}
-use Rattle.alg_sums.specs.RatioRing.{nil, one, minus, abs_minus, one_nil, is_nil, nil_is, is_nil-nil, whole_number, whole_zero, whole_one, whole_plus, whole_times, whole_minus}
+use Rattle.alg_sums.specs.RatioRing.{nil, one, minus, abs_minus, one_nil, is_nil, nil_is, is_nil-nil, whole_number, whole_zero, whole_one, whole_plus, whole_times}
 use Rattle.alg_sums.specs.Ratio as ratio
 use Rattle.alg_sums.specs.RatioRing as ring
 use Rattle.alg_sums.specs.RatioSizes.{scaled_plus, scaled_times}
+use Rattle.alg_sums.specs.Inverse.{over_numerator, inverse_of}
 use Rattle.alg_sums.specs.Coefficients.{Coefficients}
 
 -- ---- the inverse: the two numbers change places, and the sign stays above
@@ -31,6 +32,16 @@ inverse_by (negsuc n) d c = record { top = negsuc d; under = n; coprime = turned
 
 pub inverse : Ratio → Ratio
 inverse a = inverse_by a.top a.under a.coprime
+
+turned : (z : ℤ) (d : ℕ) (c : are_coprime z (suc d) ≡ true) → fraction (inverse_by z d c) ≡ over_numerator z (suc d)
+unfolding inverse_by nil
+turned (pos zero) d c = refl
+turned (pos (suc n)) d c = refl
+turned (negsuc n) d c = refl
+
+pub fraction-inverse : (a : Ratio) → fraction (inverse a) ≡ inverse_of (fraction a)
+unfolding inverse
+fraction-inverse a = turned a.top a.under a.coprime
 
 abbrev pub number : ℕ → Ratio
 number n = whole_number (pos n)

@@ -19,7 +19,7 @@ use Rattle.alg_syntax.specs.Front.{after_fixed, after_close, name_first}
 use Rattle.alg_syntax.specs.Parsers.{mapped, both, behind, ahead, choice}
 use Rattle.alg_syntax.specs.Spelling.{spell_all, AllFit}
 use Rattle.alg_syntax.specs.Commands.{spell_statement, FitsStatement, spell_names, spell_arrows, spell_domain, FitsDomain, spell_typed, spell_binder, FitsBinder}
-use Rattle.alg_syntax.specs.Reading.{read_statement, read_names, has_arrow, read_arrows, after_times, after_star, closes, looks_sorts, read_carrier, read_sorts, read_domain, read_typed, read_instance, opens_binder, read_braced, read_binder, read_binders}
+use Rattle.alg_syntax.specs.Reading.{read_statement, read_names, has_arrow, read_arrows, after_times, after_star, closes, begins_sorts, read_carrier, read_sorts, read_domain, read_typed, read_instance, opens_binder, read_braced, read_binder, read_binders}
 use Rattle.alg_syntax.proofs.Levels.{starts, IsStart, a_number, a_name, an_open}
 use Rattle.alg_syntax.proofs.FrontLemmas.{and_then_some, after_fixed_spelled}
 use Rattle.alg_syntax.proofs.Readings.{Reads, skips_fixed, skips_close, reads_both, reads_behind, reads_ahead, reads_mapped, mapped_made, refit, choice_cases}
@@ -90,14 +90,14 @@ holds_sound ts d rest e =
     let m = mapped_made Holds read_statement spell_statement FitsStatement Ends reads_statement ts d rest e in
     subst (λ (c : Domain). IsDomain ts c rest) m.same (m.whole, m.fits)
 
-unnamed_sound : (ts : List Sign) (d : Domain) (rest : List Sign) → cond (looks_sorts ts) (read_sorts ts) (mapped Holds read_statement ts) ≡ Some (d, rest) → IsDomain ts d rest
-unnamed_sound ts d rest e = elim (cases_Bool (looks_sorts ts)) [
-  | inl t ↦ sorts_sound ts d rest (sym (cond-true (looks_sorts ts) (read_sorts ts) (mapped Holds read_statement ts) t) ∙ e)
-  | inr t ↦ holds_sound ts d rest (sym (cond-false (looks_sorts ts) (read_sorts ts) (mapped Holds read_statement ts) t) ∙ e)
+unnamed_sound : (ts : List Sign) (d : Domain) (rest : List Sign) → cond (begins_sorts ts) (read_sorts ts) (mapped Holds read_statement ts) ≡ Some (d, rest) → IsDomain ts d rest
+unnamed_sound ts d rest e = elim (cases_Bool (begins_sorts ts)) [
+  | inl t ↦ sorts_sound ts d rest (sym (cond-true (begins_sorts ts) (read_sorts ts) (mapped Holds read_statement ts) t) ∙ e)
+  | inr t ↦ holds_sound ts d rest (sym (cond-false (begins_sorts ts) (read_sorts ts) (mapped Holds read_statement ts) t) ∙ e)
 ]
 
 domain_sound : (ts : List Sign) (d : Domain) (rest : List Sign) → read_domain ts ≡ Some (d, rest) → IsDomain ts d rest
-domain_sound ts d rest e = elim (choice_cases (after_fixed TypeWord ts) read_carrier (cond (looks_sorts ts) (read_sorts ts) (mapped Holds read_statement ts)) (d, rest) e) [
+domain_sound ts d rest e = elim (choice_cases (after_fixed TypeWord ts) read_carrier (cond (begins_sorts ts) (read_sorts ts) (mapped Holds read_statement ts)) (d, rest) e) [
   | inl h ↦ subst (λ us. IsDomain us d rest) (sym (after_fixed_spelled TypeWord ts h.0 h.1)) (carrier_sound h.0 d rest h.2)
   | inr h ↦ unnamed_sound ts d rest h.1
 ]
@@ -105,7 +105,7 @@ domain_sound ts d rest e = elim (choice_cases (after_fixed TypeWord ts) read_car
 -- how no domain but a statement begins
 pub record IsOpen (ts : List Sign) : Type 0 where
   pub no_type : after_fixed TypeWord ts ≡ None
-  pub no_sorts : looks_sorts ts ≡ false
+  pub no_sorts : begins_sorts ts ≡ false
 
 start_closes : (t : Sign) (ts : List Sign) → IsStart t → closes (t ∷ ts) ≡ false
 start_closes t ts (a_number f n) = refl
@@ -123,24 +123,24 @@ tree_opens (binary o a b) rest h c = subst IsOpen (sym (append_assoc (spell a) (
 tree_opens (apply a b) rest h c =
     let s = starts b h.4 h.1 in
     let e : spell b ++ rest ≡ s.head ∷ (s.tail ++ rest) = ap (λ us. us ++ rest) s.cut in
-    subst IsOpen (sym (append_assoc (spell a) (spell b) rest)) (tree_opens a (spell b ++ rest) h.3 (ap closes e ∙ start_closes s.head (s.tail ++ rest) s.kind))
+    subst IsOpen (sym (append_assoc (spell a) (spell b) rest)) (tree_opens a (spell b ++ rest) h.3 (ap closes e ∙ start_closes s.head (s.tail ++ rest) s.begins))
 
-sorts_look : (ns : List Written) (rest : List Sign) → closes rest ≡ true → closes (spell_arrows ns ++ rest) ≡ true
-sorts_look [] rest c = c
-sorts_look (n ∷ ns) rest c = refl
+sorts_begin : (ns : List Written) (rest : List Sign) → closes rest ≡ true → closes (spell_arrows ns ++ rest) ≡ true
+sorts_begin [] rest c = c
+sorts_begin (n ∷ ns) rest c = refl
 
 domain_complete : (d : Domain) (rest : List Sign) → FitsDomain d → EndsDomain rest → read_domain (spell_domain d ++ rest) ≡ Some (d, rest)
 domain_complete (Carrier true) rest f d = refl
 domain_complete (Carrier false) rest f d = ap (λ o. choice o (λ us. Some (Carrier true, us)) (Some (Carrier false, rest))) d.no_star
 domain_complete (Sorts n ns) rest f d =
     let ts = Name n ∷ (spell_arrows ns ++ rest) in
-    cond-true (looks_sorts ts) (read_sorts ts) (mapped Holds read_statement ts) (sorts_look ns rest d.closed)
+    cond-true (begins_sorts ts) (read_sorts ts) (mapped Holds read_statement ts) (sorts_begin ns rest d.closed)
     ∙ ap (option_map (λ x. (Sorts x.0.0 x.0.1, x.1))) (reads_sorts.complete (n, ns) rest tt d.no_arrow)
 domain_complete (Holds s) rest f d =
     let ts = spell_statement s ++ rest in
     let o = subst IsOpen (sym (append_assoc (spell s.lhs) (Relation s.relation ∷ spell s.rhs) rest)) (tree_opens s.lhs (Relation s.relation ∷ (spell s.rhs ++ rest)) f.0 refl) in
-    ap (λ x. choice x read_carrier (cond (looks_sorts ts) (read_sorts ts) (mapped Holds read_statement ts))) o.no_type
-    ∙ (cond-false (looks_sorts ts) (read_sorts ts) (mapped Holds read_statement ts) o.no_sorts
+    ap (λ x. choice x read_carrier (cond (begins_sorts ts) (read_sorts ts) (mapped Holds read_statement ts))) o.no_type
+    ∙ (cond-false (begins_sorts ts) (read_sorts ts) (mapped Holds read_statement ts) o.no_sorts
     ∙ ap (option_map (λ x. (Holds x.0, x.1))) (reads_statement.complete s rest f d.ended))
 
 pub reads_domain : Reads read_domain spell_domain FitsDomain EndsDomain

@@ -153,15 +153,15 @@ pub record Starts (ts : List Sign) : Type 0 where
   pub head : Sign
   pub tail : List Sign
   pub cut : ts ≡ head ∷ tail
-  pub kind : IsStart head
+  pub begins : IsStart head
 
 pub starts : (b : Tree) → Fits b → 100 ≤ level b → Starts (spell b)
-starts (number f n) h l = record { head = Number f n; tail = []; cut = refl; kind = a_number f n }
-starts (name n) h l = record { head = Name n; tail = []; cut = refl; kind = a_name n }
-starts (group f a) h l = record { head = Open f; tail = spell a ++ Close ∷ []; cut = refl; kind = an_open f }
-starts (ascribed f a sort) h l = record { head = Open f; tail = spell a ++ Fixed Colon ∷ Name sort ∷ Close ∷ []; cut = refl; kind = an_open f }
+starts (number f n) h l = record { head = Number f n; tail = []; cut = refl; begins = a_number f n }
+starts (name n) h l = record { head = Name n; tail = []; cut = refl; begins = a_name n }
+starts (group f a) h l = record { head = Open f; tail = spell a ++ Close ∷ []; cut = refl; begins = an_open f }
+starts (ascribed f a sort) h l = record { head = Open f; tail = spell a ++ Fixed Colon ∷ Name sort ∷ Close ∷ []; cut = refl; begins = an_open f }
 starts (minus a) h l = absurd (omega arith)
-starts (inverse a) h l = let s = starts a h.1 h.0 in record { head = s.head; tail = s.tail ++ Inverse ∷ []; cut = ap (λ xs. xs ++ Inverse ∷ []) s.cut; kind = s.kind }
+starts (inverse a) h l = let s = starts a h.1 h.0 in record { head = s.head; tail = s.tail ++ Inverse ∷ []; cut = ap (λ xs. xs ++ Inverse ∷ []) s.cut; begins = s.begins }
 starts (binary o a b) h l = let k = (level_bounds (tier o)).1 in absurd (omega arith)
 starts (apply a b) h l = absurd (omega arith)
 

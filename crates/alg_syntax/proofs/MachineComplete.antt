@@ -105,9 +105,9 @@ complete (apply a b) h m n fs rest l g s =
     let room = ap length qt in
     let high = head_level a h.0 in
     right_part n m 100 a b (apply a b) (In_argument m a) fs (t.head ∷ tr) rest
-    (complete a h.3 m n fs (t.head ∷ tr) (omega arith) (start_follows m a t.head tr t.kind h.0) (omega arith))
-    (start_takes m a t.head tr t.kind l h.0 (start_line t.head tr t.tail t.kind ∙ (ap begins_line (sym t.cut) ∙ h.2)))
-    (λ f. start_longer f m a fs t.head tr t.kind ∙ ap (f (Begin 100) (In_argument m a ∷ fs)) (sym qt)) (omega arith)
+    (complete a h.3 m n fs (t.head ∷ tr) (omega arith) (start_follows m a t.head tr t.begins h.0) (omega arith))
+    (start_takes m a t.head tr t.begins l h.0 (start_line t.head tr t.tail t.begins ∙ (ap begins_line (sym t.cut) ∙ h.2)))
+    (λ f. start_longer f m a fs t.head tr t.begins ∙ ap (f (Begin 100) (In_argument m a ∷ fs)) (sym qt)) (omega arith)
     (λ j z. complete b h.4 100 j (In_argument m a ∷ fs) rest h.1 (follow_argument m a b rest h.1 g) z)
     (stop_argument m a b rest g)
     (λ f. refl) whole

@@ -86,16 +86,16 @@ closes (Relation r ∷ ts) = false
 closes (Fixed j ∷ ts) = true
 
 -- a name that no expression goes on from
-abbrev pub looks_sorts : List Sign → Bool
-looks_sorts [] = false
-looks_sorts (Number f n ∷ ts) = false
-looks_sorts (Name n ∷ ts) = closes ts
-looks_sorts (Open f ∷ ts) = false
-looks_sorts (Close ∷ ts) = false
-looks_sorts (Operator o ∷ ts) = false
-looks_sorts (Inverse ∷ ts) = false
-looks_sorts (Relation r ∷ ts) = false
-looks_sorts (Fixed j ∷ ts) = false
+abbrev pub begins_sorts : List Sign → Bool
+begins_sorts [] = false
+begins_sorts (Number f n ∷ ts) = false
+begins_sorts (Name n ∷ ts) = closes ts
+begins_sorts (Open f ∷ ts) = false
+begins_sorts (Close ∷ ts) = false
+begins_sorts (Operator o ∷ ts) = false
+begins_sorts (Inverse ∷ ts) = false
+begins_sorts (Relation r ∷ ts) = false
+begins_sorts (Fixed j ∷ ts) = false
 
 abbrev pub read_carrier : Parser Domain
 read_carrier ts = choice (after_star ts) (λ us. Some (Carrier true, us)) (Some (Carrier false, ts))
@@ -104,7 +104,7 @@ abbrev pub read_sorts : Parser Domain
 read_sorts = mapped (λ x. Sorts x.0 x.1) (both name_first read_arrows)
 
 abbrev pub read_domain : Parser Domain
-read_domain ts = choice (after_fixed TypeWord ts) read_carrier (if looks_sorts ts then read_sorts ts else mapped Holds read_statement ts)
+read_domain ts = choice (after_fixed TypeWord ts) read_carrier (if begins_sorts ts then read_sorts ts else mapped Holds read_statement ts)
 
 abbrev pub read_typed : Parser Typed
 read_typed = mapped (λ x. record { first = x.0; more = x.1.0; domain = x.1.1 }) (both name_first (both read_names (behind (after_fixed Colon) read_domain)))

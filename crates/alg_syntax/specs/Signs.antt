@@ -45,21 +45,21 @@ abbrev pub operator_or : Option operator.Operator → Sign → Sign
 operator_or (Some o) other = Operator o
 operator_or None other = other
 
-abbrev pub plain_mark_of : Bool → List ℕ → Sign
-plain_mark_of f text =
+abbrev pub sign_of_punctuation : Bool → List ℕ → Sign
+sign_of_punctuation f text =
     if bytes_eq text (codes "(") then Open f
     else (if bytes_eq text (codes ")") then Close
     else (if bytes_eq text (0xE2 ∷ 0x81 ∷ 0xBB ∷ 0xC2 ∷ 0xB9 ∷ []) then Inverse
     else relation_or (found_in relations text) (fixed_of (found_in punctuation text))))
 
-abbrev pub mark_of : Bool → List ℕ → Sign
-mark_of f text = operator_or (found_in operators text) (plain_mark_of f text)
+abbrev pub sign_of_mark : Bool → List ℕ → Sign
+sign_of_mark f text = operator_or (found_in operators text) (sign_of_punctuation f text)
 
 abbrev pub sign_of : Kind → Bool → List ℕ → Sign
 sign_of (kind.Literal n) f text = Number f n
 sign_of kind.Name f text = Name (record { begins_line = f; text = text })
 sign_of kind.Word f text = fixed_of (found_in words text)
-sign_of kind.Mark f text = mark_of f text
+sign_of kind.Mark f text = sign_of_mark f text
 
 -- a token, up to its place
 abbrev pub seen : Token → Sign

@@ -65,9 +65,9 @@ pub text_back-text_store : (text : List ℕ) → text_back (text_store text) ≡
 text_back-text_store [] = refl
 text_back-text_store (c ∷ cs) = ap (λ xs. c ∷ xs) (text_back-text_store cs)
 
--- a kind, two numbers, and what is behind them
+-- a tag, two numbers, and what is behind them
 abbrev pub made : ℕ → ℕ → ℕ → Gv → Gv → Gv
-made kind n m a b = gcons (gcons (gnum kind) (gcons (gnum n) (gnum m))) (gcons a b)
+made tag n m a b = gcons (gcons (gnum tag) (gcons (gnum n) (gnum m))) (gcons a b)
 
 abbrev pub tree_store : Tree → Gv
 tree_store (number f n) = made 0 (flag f) n gnil gnil

@@ -1,7 +1,7 @@
 ghost use Rattle.std.specs.Prelude.{◌≡◌, false, Some, None, if◌then◌else◌, IfOk, option_map};
 ghost use Rattle.alg_syntax.specs.declared.binders.Domain.TheVariants.{Holds};
 ghost use Rattle.alg_syntax.specs.Parsers.{mapped};
-ghost use Rattle.alg_syntax.specs.Reading.{read_names, read_arrows, after_star, closes, looks_sorts, read_carrier, read_sorts, read_domain, read_statement, read_typed, read_instance, opens_binder, read_braced, read_binder, read_binders};
+ghost use Rattle.alg_syntax.specs.Reading.{read_names, read_arrows, after_star, closes, begins_sorts, read_carrier, read_sorts, read_domain, read_statement, read_typed, read_instance, opens_binder, read_braced, read_binder, read_binders};
 
 use crate::front::{Tokens, is};
 use crate::signs::{Fixed, Name, Operator, Sign};
@@ -98,8 +98,8 @@ fn closes<'a>(left: &Tokens<'_, 'a>) -> bool
 }
 
 // Whether a sort stands here, or a function's sorts, and no statement.
-fn looks_sorts<'a>(left: &Tokens<'_, 'a>) -> bool
-    ensures { result ≡ looks_sorts left.now }
+fn begins_sorts<'a>(left: &Tokens<'_, 'a>) -> bool
+    ensures { result ≡ begins_sorts left.now }
 {
     match left.first() {
         Some(Sign::Name(_)) => {
@@ -141,7 +141,7 @@ fn read_domain<'a>(alloc: Global, left: &mut Tokens<'_, 'a>) -> Result<Option<Do
     if left.skip_fixed(Fixed::TypeWord) {
         return Ok(Some(read_carrier(left)));
     }
-    if looks_sorts(left) {
+    if begins_sorts(left) {
         read_sorts(alloc, left)
     } else {
         read_hypothesis(alloc, left)

@@ -1,5 +1,5 @@
 ghost use Rattle.std.specs.Prelude.{◌≡◌};
-ghost use Rattle.alg_syntax.specs.Signs.{seen, found_in, words, punctuation, relations, operators, mark_of, plain_mark_of};
+ghost use Rattle.alg_syntax.specs.Signs.{seen, found_in, words, punctuation, relations, operators, sign_of_mark, sign_of_punctuation};
 
 use alg_lex::{Kind, Token};
 use std::marker::Model;
@@ -192,8 +192,8 @@ fn find_operator(text: &str) -> Option<Operator>
 }
 
 // A mark that is no operator.
-fn plain_mark<'a>(begins_line: bool, text: &str) -> Sign<'a>
-    ensures { result ≡ plain_mark_of begins_line text.now }
+fn sign_of_punctuation<'a>(begins_line: bool, text: &str) -> Sign<'a>
+    ensures { result ≡ sign_of_punctuation begins_line text.now }
 {
     if text == "(" {
         return Sign::Open(begins_line);
@@ -208,17 +208,17 @@ fn plain_mark<'a>(begins_line: bool, text: &str) -> Sign<'a>
         return Sign::Relation(relation);
     }
     match find_punctuation(text) {
-        Some(mark) => Sign::Fixed(mark),
+        Some(fixed) => Sign::Fixed(fixed),
         None => Sign::Fixed(Fixed::Unknown),
     }
 }
 
-fn mark<'a>(begins_line: bool, text: &str) -> Sign<'a>
-    ensures { result ≡ mark_of begins_line text.now }
+fn sign_of_mark<'a>(begins_line: bool, text: &str) -> Sign<'a>
+    ensures { result ≡ sign_of_mark begins_line text.now }
 {
     match find_operator(text) {
         Some(operator) => Sign::Operator(operator),
-        None => plain_mark(begins_line, text),
+        None => sign_of_punctuation(begins_line, text),
     }
 }
 
@@ -233,6 +233,6 @@ pub fn sign_of<'a>(token: &Token<'a>) -> Sign<'a>
             Some(word) => Sign::Fixed(word),
             None => Sign::Fixed(Fixed::Unknown),
         },
-        Kind::Mark => mark(token.after_newline, token.text),
+        Kind::Mark => sign_of_mark(token.after_newline, token.text),
     }
 }

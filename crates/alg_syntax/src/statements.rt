@@ -1,5 +1,4 @@
 ghost use Rattle.std.specs.Prelude.{◌≡◌, IfOk, option_map};
-ghost use Rattle.alg_syntax.specs.Machine.{read_expression};
 ghost use Rattle.alg_syntax.specs.Reading.{relation_first, read_statement};
 
 use crate::expressions::{Expression, read_expression};

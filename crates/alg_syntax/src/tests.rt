@@ -21,7 +21,7 @@ fn tokens<'a>(rt: &impl Abort, alloc: Global, text: &'a str) -> Result<Vec<Token
     Ok(found)
 }
 
-fn mark(operator: Operator) -> &'static str {
+fn written_operator(operator: Operator) -> &'static str {
     match operator {
         Operator::Add => "+",
         Operator::Sub => "-",
@@ -48,7 +48,7 @@ fn postfix<'a>(alloc: Global, expression: &Expression<'a>) -> Result<String, Fai
             }
             Node::Minus(_) => out.push_str("neg")?,
             Node::Inverse(_) => out.push_str("⁻¹")?,
-            Node::Binary(operator, _, _) => out.push_str(mark(*operator))?,
+            Node::Binary(operator, _, _) => out.push_str(written_operator(*operator))?,
             Node::Apply(_, _) => out.push_str("@")?,
         }
         out.push_str(" ")?;

@@ -8,7 +8,8 @@ use Rattle.std.specs.declared.cmp.Ordering.TheVariants.{Less, Equal, Greater}
 use Rattle.std.proofs.lemmas.Cmp.{ranked}
 use Rattle.alg_terms.specs.declared.sorts.Sort.{Sort}
 use Rattle.alg_terms.specs.declared.relations.Rel.{Rel}
-use Rattle.alg_terms.specs.Keys.{sort_key, sym_key, rel_key, rel_at, rel_at-rel_key, sort_key-inj, sym_key-inj}
+use Rattle.alg_terms.specs.Keys.{sort_key, sym_key, rel_key, rel_at, rel_at-rel_key}
+use Rattle.alg_terms.proofs.KeyLaws.{sort_key-inj, sym_key-inj}
 use Rattle.alg_terms.specs.Tree.{Tree, Lit, Var, App, Trees, Nil, Cons}
 use Rattle.alg_terms.specs.Order.{sort_cmp, sym_cmp, tree_cmp, trees_cmp, tree_same, sort_same, rel_same}
 

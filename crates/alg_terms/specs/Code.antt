@@ -1,11 +1,9 @@
 -- Trees and statements as values of a model: each has a code, a tree of numbers, from which it can be read back.
 use Rattle.std.specs.Prelude.{◌≡◌, ℕ, zero, suc, refl}
-use Rattle.std.proofs.Common.{ap, ap₂, sym, ◌∙◌}
+use Rattle.std.proofs.Common.{ap, sym, ◌∙◌}
 use base.Stored.{Gv, gnil, gnum, gcons}
 use Rattle.std.specs.Coded.{Coded, code_by, coded_ℕ, coded×}
-use Rattle.alg_terms.specs.declared.sorts.Sort.{Sort}
 use Rattle.alg_terms.specs.declared.sorts.Sort.TheVariants.{Nat}
-use Rattle.alg_terms.specs.declared.symbols.Sym.{Sym}
 use Rattle.alg_terms.specs.Keys.{sort_key, sort_at, sym_key, sym_at, sort_at-sort_key, sym_at-sym_key, rel_key, rel_at, rel_at-rel_key}
 use Rattle.alg_terms.specs.Tree.{Tree, Lit, Var, App, Trees, Nil, Cons, Statement}
 

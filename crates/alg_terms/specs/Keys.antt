@@ -1,6 +1,6 @@
 -- The numbers of sorts, symbols and relations, by which each is ordered and found again.
 use Rattle.std.specs.Prelude.{◌≡◌, ℕ, zero, suc, ◌+◌, ◌-◌, refl, cond, nat_lt, false, List, [], ◌∷◌, get_or}
-use Rattle.std.proofs.Common.{ap, sym, ◌∙◌, arith}
+use Rattle.std.proofs.Common.{arith}
 use Rattle.std.proofs.lemmas.Bool.Decides.{nat_tests}
 use Rattle.alg_terms.specs.declared.sorts.Sort.{Sort}
 use Rattle.alg_terms.specs.declared.sorts.Sort.TheVariants.{Nat, Int, Rat, Decl}
@@ -28,9 +28,6 @@ sort_at-sort_key Nat = refl
 sort_at-sort_key Int = refl
 sort_at-sort_key Rat = refl
 sort_at-sort_key (Decl k) = refl
-
-pub sort_key-inj : (s t : Sort) → sort_key s ≡ sort_key t → s ≡ t
-sort_key-inj s t e = sym (sort_at-sort_key s) ∙ ap sort_at e ∙ sort_at-sort_key t
 
 -- the place of a symbol in their order: its number, and 22 + k for the k-th declaration
 abbrev pub sym_key : Sym → ℕ
@@ -91,9 +88,6 @@ sym_at-sym_key (Apply k) =
     let small : nat_lt (k + 22) 22 ≡ false = grind (arith, nat_tests) in
     let same : k + 22 - 22 ≡ k = omega arith in
     rw (small, same)
-
-pub sym_key-inj : (f g : Sym) → sym_key f ≡ sym_key g → f ≡ g
-sym_key-inj f g e = sym (sym_at-sym_key f) ∙ ap sym_at e ∙ sym_at-sym_key g
 
 -- the place of a relation in their order
 abbrev pub rel_key : Rel → ℕ

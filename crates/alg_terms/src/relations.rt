@@ -3,9 +3,10 @@ ghost use Rattle.alg_terms.specs.Order.{rel_same};
 ghost use Rattle.alg_terms.specs.Keys.{rel_key};
 
 /// The relation of a statement.
-#[derive(Clone, Copy, Debug, PartialEq, Eq, PartialOrd, Ord, Hash)]
+#[derive(Clone, Copy, Debug, Default, PartialEq, Eq, PartialOrd, Ord, Hash)]
 pub enum Rel {
     /// `=`
+    #[default]
     Eq,
     /// `≠`
     Ne,

@@ -6,9 +6,10 @@ ghost use Rattle.alg_terms.specs.Symbols.{is_integral};
 use std::cmp::Ordering;
 
 /// What a tree ranges over.
-#[derive(Clone, Copy, Debug, PartialEq, Eq, PartialOrd, Ord, Hash)]
+#[derive(Clone, Copy, Debug, Default, PartialEq, Eq, PartialOrd, Ord, Hash)]
 pub enum Sort {
     /// The natural numbers ℕ, from 0.
+    #[default]
     Nat,
     /// The integers ℤ.
     Int,

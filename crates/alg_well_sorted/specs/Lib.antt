@@ -1,7 +1,2 @@
 pub mod Agreeing
-pub mod BindersGood
-pub mod Compounds
-pub mod EnteringLaws
-pub mod Parts
-pub mod StatementsGood
-pub mod TypedGood
+pub mod OfSort

@@ -1,5 +1,5 @@
 -- What a parse of the command says, at any command of its shape.
-use Rattle.std.proofs.Common.{◌≡◌, ◌∙◌, ap, sym, refl, true, false, ap₂, List, [], codes, map}
+use Rattle.std.proofs.Common.{◌≡◌, ◌∙◌, ap, sym, refl, true, false, ap₂, List, []}
 use Rattle.clap.specs.Words.{App, Text, HasMatchesOf, fault_of, found_of, first_of, first_value, is_simple, is_simple_and_free, matches_of, AddsArg, Rule, app_of, rule_of, with_rule}
 use Rattle.clap.specs.declared.parser.matches.ArgMatches.{ArgMatches}
 use Rattle.clap.specs.declared.builder.arg.Arg.{Arg}

@@ -1,5 +1,5 @@
 -- The words of the command line as one simple command, and the values that they give.
-use Rattle.std.specs.Prelude.{◌≡◌, ℕ, List, [], ◌∷◌, Option, Some, None, Bool, true, false, codes, option_map}
+use Rattle.std.specs.Prelude.{◌≡◌, ℕ, List, [], Option, Some, true, codes, option_map}
 use Rattle.std.specs.Borrow.{Bor}
 use Rattle.clap.specs.Words.{App, Rule, Text, first_of, new_app, new_rule, with_rule, fault_of, matches_of}
 use Rattle.clap.specs.declared.builder.ArgAction.TheVariants.{Set}

@@ -6,6 +6,3 @@ pub mod job;
 
 pub use alg_expr::Memory;
 pub use job::{Job, read_words};
-
-#[cfg(test)]
-mod tests;

@@ -1,11 +1,25 @@
 //! Runs of the program `algebra`, one after the other. Behind each its words and its exit status are printed.
 #![tactic(auto)]
 
-use alg_cli::{Extensions, Host, RealHost, run};
-use std::alloc::{AllocError, Global};
-use std::process::ExitCode;
+mod deep_trees;
+mod entries;
+mod in_memory;
+mod lemma_lines;
+mod shown;
+mod words;
 
-const RUNS: [&'static str; 18] = [
+use alg_cli::RealHost;
+use alg_expr::Memory;
+use deep_trees::print_deep_trees;
+use entries::run_entries;
+use in_memory::run_in_memory;
+use lemma_lines::print_lemma_lines;
+use shown::print_shown;
+use std::alloc::Global;
+use std::process::ExitCode;
+use words::{print, run_words};
+
+const RUNS: [&'static str; 22] = [
     "algebra prove notation.alg --cert written.cert",
     "algebra check notation.alg written.cert",
     "algebra check notation.alg notation.cert",
@@ -13,6 +27,8 @@ const RUNS: [&'static str; 18] = [
     "algebra check refusals.alg notation.cert",
     "algebra check first.alg unended.cert",
     "algebra check first.alg first.alg",
+    "algebra check computations.alg computations.cert",
+    "algebra check lemmas.alg lemmas.cert",
     "algebra prove notation_rows.alg",
     "algebra prove faults.alg",
     "algebra prove first.alg",
@@ -20,6 +36,8 @@ const RUNS: [&'static str; 18] = [
     "algebra check empty.alg written.cert",
     "algebra prove not_utf8.alg",
     "algebra prove missing.alg",
+    "algebra prove first.alg --cert no/such/file",
+    "algebra check first.alg missing.cert",
     "algebra demo 1",
     "algebra prove norm_num.alg",
     "algebra prove tactics.alg",
@@ -32,22 +50,27 @@ const OUT_OF_MEMORY: u8 = 4;
 fn main(rt: HostRuntime) -> ExitCode {
     let alloc = rt.alloc();
     let mut host = RealHost::new(rt);
-    for line in RUNS {
-        if run_line(alloc, line, &mut host).is_err() {
-            return ExitCode::from(OUT_OF_MEMORY);
-        }
+    match run_all(alloc, &mut host) {
+        Ok(()) => ExitCode::from(0),
+        Err(Memory) => ExitCode::from(OUT_OF_MEMORY),
     }
-    ExitCode::from(0)
+}
+
+fn run_all(alloc: Global, host: &mut RealHost) -> Result<(), Memory> {
+    for line in RUNS {
+        run_line(alloc, line, host)?;
+    }
+    run_in_memory(alloc, host)?;
+    run_entries(alloc, host)?;
+    print_deep_trees(alloc, host)?;
+    print_lemma_lines(alloc, host)?;
+    print_shown(alloc, host)
 }
 
 // The run of the words of a line.
-fn run_line(alloc: Global, line: &str, host: &mut RealHost) -> Result<(), AllocError> {
-    let mut words = Vec::new(alloc);
-    for word in line.split(' ') {
-        words.push(String::from_str(alloc, word)?)?;
-    }
-    let code = run(alloc, &words, host, &Extensions {}).code();
+fn run_line(alloc: Global, line: &str, host: &mut RealHost) -> Result<(), Memory> {
+    let code = run_words(alloc, line, host)?;
     let text = format!(in alloc; "{line}: {code}\n")?;
-    let _ = host.say(text.as_bytes());
+    print(host, text.as_bytes());
     Ok(())
 }

@@ -1,4 +1,3 @@
-use Rattle.std.proofs.Common.{rules}
 use Rattle.alg_binders.proofs.Kept.{kept_on}
 use Rattle.alg_binders.proofs.adding.add_name.Goals as goal
 

@@ -1,4 +1,4 @@
-use Rattle.std.proofs.Common.{◌≡◌, drop}
+use Rattle.std.proofs.Common.{drop}
 use Rattle.std.specs.Prelude.{All}
 use Rattle.alg_expr.specs.Arena.{Extends}
 use Rattle.alg_law.specs.Declarations.{declarations_of, IsDeclaredIn}

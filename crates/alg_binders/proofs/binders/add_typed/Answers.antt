@@ -1,4 +1,4 @@
-use Rattle.std.proofs.Common.{rules, ◌≡◌, ℕ, List, [], ◌∷◌, map, None, sym, ap, ◌∙◌, subst}
+use Rattle.std.proofs.Common.{rules, ◌≡◌, ℕ, List, [], ◌∷◌, map, None, sym, subst}
 use Rattle.std.specs.Prelude.{IfNone, IfOk}
 use Rattle.alg_law.specs.Declarations.{declarations_of}
 use Rattle.alg_binders.specs.Binders.{text_of, names_of, taken_faults, domain_faults, declared_as}

@@ -1,4 +1,4 @@
-use Rattle.std.proofs.Common.{rules, ◌≡◌, List, [], None, sym, ap, ◌∙◌, subst}
+use Rattle.std.proofs.Common.{rules, ◌≡◌, [], None, ap, ◌∙◌, subst}
 use Rattle.std.specs.Prelude.{IfNone, IfOk}
 use Rattle.alg_expr.specs.Ids.{statement_of}
 use Rattle.alg_law.specs.Declarations.{declarations_of}

@@ -9,7 +9,7 @@ use Rattle.alg_binders.proofs.goals.further_fault.Goals as goal
 pub returns-in-Some : goal.returns-in-Some
 returns-in-Some c =
     let s = c.args.scope.now in
-    let k = c.args.kind in
+    let k = c.args.sort in
     let xs = c.args.further.now in
     let i = c.loop-step.step-index in
     let x = c.step-item.result in
@@ -19,7 +19,7 @@ returns-in-Some c =
 pub loop-step-preserved : goal.loop-step-preserved
 loop-step-preserved c =
     let s = c.args.scope.now in
-    let k = c.args.kind in
+    let k = c.args.sort in
     let xs = c.args.further.now in
     let i = c.loop-step.step-index in
     let x = c.step-item.result in

@@ -1,7 +1,7 @@
-use Rattle.std.proofs.Common.{sym, ◌∙◌, ap, ◌∷◌, Some, Option}
+use Rattle.std.proofs.Common.{sym, ◌∙◌, ap, ◌∷◌, Some}
 use Rattle.std.proofs.lemmas.List.{length-map}
 use Rattle.alg_expr.specs.Ids.{tree_of, trees_at}
-use Rattle.alg_certificate_lines.specs.Taking.{Built, opening, newest}
+use Rattle.alg_certificate_lines.specs.Taking.{opening, newest}
 use Rattle.alg_certificate_lines.proofs.GrowthLaws.{newest_push}
 use Rattle.alg_certificate_lines.proofs.building.open_node.Goals as goal
 

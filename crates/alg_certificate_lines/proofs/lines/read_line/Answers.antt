@@ -1,7 +1,6 @@
-use Rattle.std.proofs.Common.{Ok, ap, subst}
+use Rattle.std.proofs.Common.{ap, subst}
 use Rattle.alg_proof.specs.Steps.{Symm, Hyp, LitAdd, LitMul}
 use Rattle.alg_certificate_lines.specs.declared.kinds.Kind.TheVariants as kind
-use Rattle.alg_certificate_lines.specs.Kinds.{Spells}
 use Rattle.alg_certificate_lines.specs.Steps.{step_read, GivesLine}
 use Rattle.alg_certificate_lines.specs.Texts.{over_number, over_pair, over_triple}
 use Rattle.alg_certificate_lines.proofs.ItemLaws.{one_spelled, two_spelled, three_spelled}

@@ -1,8 +1,7 @@
 use Rattle.std.proofs.Common.{Ok, ◌∷◌, subst}
 use Rattle.alg_terms.specs.Tree.{of_list}
-use Rattle.alg_expr.specs.Ids.{trees_at}
 use Rattle.alg_certificate.specs.Spelling.{semicolon, numbers}
-use Rattle.alg_certificate_lines.specs.Steps.{trees_read, GivesTrees, GivesLine}
+use Rattle.alg_certificate_lines.specs.Steps.{trees_read, GivesTrees}
 use Rattle.alg_certificate_lines.specs.Texts.{row_step}
 use Rattle.alg_certificate_lines.proofs.CutLaws.{trees_line, trees_fault, all_fit, numbers_words, before_text}
 use Rattle.alg_certificate_lines.proofs.rows.read_instance.Goals as goal

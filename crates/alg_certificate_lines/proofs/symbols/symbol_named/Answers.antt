@@ -1,4 +1,3 @@
-use Rattle.std.proofs.Common.{rules}
 use Rattle.alg_certificate_lines.proofs.Naming.{symbol_spelled}
 use Rattle.alg_certificate_lines.proofs.symbols.symbol_named.Goals as goal
 

@@ -1,4 +1,4 @@
-use Rattle.std.proofs.Common.{◌≡◌, ◌∙◌, Ok, ap, arith}
+use Rattle.std.proofs.Common.{◌∙◌, Ok, ap, arith}
 use Rattle.std.specs.Prelude.{map}
 use Rattle.alg_proof.specs.LemmaRows.{rows_of}
 use Rattle.alg_certificate.specs.Reader.{coming_of}

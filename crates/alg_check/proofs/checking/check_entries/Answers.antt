@@ -1,5 +1,5 @@
-use Rattle.std.proofs.Common.{◌≡◌, ◌∙◌, sym, arith, rules}
-use Rattle.alg_check.specs.Written.{Gives, seen_entry}
+use Rattle.std.proofs.Common.{◌∙◌, sym, arith, rules}
+use Rattle.alg_check.specs.Written.{seen_entry}
 use Rattle.alg_check.proofs.Standing.{at_start, next, cut, cut_before, over, fault_said, fault_cut}
 use Rattle.alg_check.proofs.Saying.{says_nothing, says_part, says_then}
 use Rattle.alg_check.proofs.checking.check_entries.Goals as goal

@@ -1,4 +1,4 @@
-use Rattle.std.proofs.Common.{◌≡◌, ◌≤◌, ℕ, ◌+◌, List, length, map}
+use Rattle.std.proofs.Common.{◌≡◌, ◌≤◌, ◌+◌, List, length, map}
 use Rattle.alg_proof.specs.LemmaRows.{rows_of}
 use Rattle.alg_check.specs.Checking.{SaysOnly}
 use Rattle.alg_check.specs.Entries.{Entry, AreEntriesOf}

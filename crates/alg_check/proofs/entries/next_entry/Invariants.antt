@@ -1,4 +1,4 @@
-use Rattle.std.proofs.Common.{◌≡◌, ◌≤◌, ℕ, length}
+use Rattle.std.proofs.Common.{◌≡◌, ◌≤◌, length}
 use Rattle.alg_check.specs.Written.{seen_entry, texts_from, texts_in}
 use Rattle.alg_check.proofs.entries.next_entry.Given as goal
 

@@ -1,7 +1,6 @@
 use Rattle.alg_kernel.proofs.Growing.{IsSound-extends}
-use Rattle.alg_kernel.specs.State.{progress_of}
 use Rattle.alg_proof.specs.Lines.{step_of}
-use Rattle.std.proofs.Common.{◌≡◌, ap, sym, ◌∙◌, Ok, subst}
+use Rattle.std.proofs.Common.{◌≡◌, sym, Ok, subst}
 use Rattle.alg_check.specs.Meant.{meant}
 use Rattle.alg_check.proofs.Steps.{fed_number, fed_follows, fed_before}
 use Rattle.alg_check.proofs.following.follow.Goals as goal

@@ -1,11 +1,8 @@
-use Rattle.std.proofs.Common.{◌≡◌, ◌+◌, ◌∷◌, [], List, ℕ, get_or, drop, rules, arith, sym, ◌∙◌, subst}
-use Rattle.std.specs.Borrow.{Bor}
+use Rattle.std.proofs.Common.{rules, arith, ◌∙◌, subst}
 use Rattle.alg_expr.proofs.ArenaLaws.{Extends-then}
-use Rattle.alg_proof.specs.Steps.{Step, Theory}
-use Rattle.alg_certificate.specs.Spelling.{HasSpelling, step_bytes}
-use Rattle.alg_kernel.specs.State.{theory_of, progress_of}
+use Rattle.alg_proof.specs.Steps.{Theory}
+use Rattle.alg_kernel.specs.State.{progress_of}
 use Rattle.alg_check.specs.Following.{Follows}
-use Rattle.alg_check.specs.Written.{seen}
 use Rattle.alg_check.proofs.Steps.{bad_left, next_left, over_left, same_theory, left_at, left_none}
 use Rattle.alg_check.proofs.following.follow_all.Goals as goal
 

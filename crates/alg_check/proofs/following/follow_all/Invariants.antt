@@ -1,4 +1,4 @@
-use Rattle.std.proofs.Common.{◌≡◌, ℕ, ◌+◌, List, drop}
+use Rattle.std.proofs.Common.{◌≡◌, ◌+◌, List, drop}
 use Rattle.alg_terms.specs.Tree.{Statement}
 use Rattle.alg_expr.specs.Arena.{Extends}
 use Rattle.alg_proof.specs.Steps.{Step}

@@ -1,5 +1,5 @@
 use Rattle.std.proofs.Common.{refl}
-use Rattle.alg_cli.proofs.Reaching.{did_none, did_empty, did_plan}
+use Rattle.alg_cli.proofs.Reaching.{did_none, did_plan}
 use Rattle.alg_cli.proofs.Working.{goal_done, goal_tally, nothing_declared}
 use Rattle.alg_cli.proofs.work.do_command.Goals as goal
 

@@ -12,7 +12,7 @@ use Rattle.alg_combinations.proofs.combining.build_combination.Goals as goal
 pub combining-preserved-in-Continue-branch-5 : goal.combining-preserved-in-Continue-branch-5
 combining-preserved-in-Continue-branch-5 c =
     let s = c.args.scope.now in
-    let k = c.args.kind in
+    let k = c.args.sort in
     let ts = c.args.nodes.now in
     let r = meant (tree_at ts c.in-Down.id) in
     let rest = c.pop.new.self.items in
@@ -31,7 +31,7 @@ combining-preserved-in-Continue-branch-5 c =
 pub combining-preserved-in-Continue-branch-6 : goal.combining-preserved-in-Continue-branch-6
 combining-preserved-in-Continue-branch-6 c =
     let s = c.args.scope.now in
-    let k = c.args.kind in
+    let k = c.args.sort in
     let ts = c.args.nodes.now in
     let rest = c.pop.new.self.items in
     record {
@@ -44,7 +44,7 @@ combining-preserved-in-Continue-branch-6 c =
 pub combining-preserved : goal.combining-preserved
 combining-preserved c =
     let s = c.args.scope.now in
-    let k = c.args.kind in
+    let k = c.args.sort in
     let ts = c.args.nodes.now in
     let rest = c.pop.new.self.items in
     let o = c.in-Join.operator in

@@ -11,7 +11,7 @@ abbrev pub invariant-combining : goal.invariant-combining
 invariant-combining l = record {
   within : JobsIn (length l.nodes) (reverse l.jobs.items);
   kept : Extends l.fn.arena l.arena;
-  same : IsSoFar l.arena l.steps.items (left_of l.scope l.kind l.nodes (reverse l.jobs.items)) (combined l.scope l.kind (meant (tree_at l.nodes l.fn.id)));
+  same : IsSoFar l.arena l.steps.items (left_of l.scope l.sort l.nodes (reverse l.jobs.items)) (combined l.scope l.sort (meant (tree_at l.nodes l.fn.id)));
 }
 
 abbrev pub decreases-combining : goal.decreases-combining

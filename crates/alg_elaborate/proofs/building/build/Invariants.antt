@@ -14,7 +14,7 @@ invariant-building l = record {
   enough : Enough (reverse l.jobs.items) (length l.values.items);
   below : Below l.arena l.values.items;
   grows : Extends l.fn.arena l.arena;
-  same : typed l.scope l.fn.kind (meant (tree_at l.nodes l.fn.id)) ∷ [] ≡ done l.scope l.nodes (reverse l.jobs.items) (trees_at l.arena l.values.items);
+  same : typed l.scope l.fn.sort (meant (tree_at l.nodes l.fn.id)) ∷ [] ≡ done l.scope l.nodes (reverse l.jobs.items) (trees_at l.arena l.values.items);
 }
 
 abbrev pub decreases-building : goal.decreases-building

@@ -1,4 +1,4 @@
-use Rattle.std.proofs.Common.{rules, ◌∙◌, ap}
+use Rattle.std.proofs.Common.{◌∙◌, ap}
 use Rattle.alg_syntax.specs.Nodes.{tree_of}
 use Rattle.alg_elaborate.proofs.Leaves.{split_same}
 use Rattle.alg_elaborate.proofs.regions.split_arguments.Goals as goal

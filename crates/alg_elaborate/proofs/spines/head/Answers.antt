@@ -1,4 +1,4 @@
-use Rattle.std.proofs.Common.{rules, ◌∙◌, ap, subst, arith, length}
+use Rattle.std.proofs.Common.{◌∙◌, ap, subst, arith}
 use Rattle.alg_syntax.specs.Nodes.{tree_at, tree_of, IsBelow}
 use Rattle.alg_elaborate.proofs.SpineLemmas.{count_apply, head_apply}
 use Rattle.alg_elaborate.proofs.spines.head.Goals as goal

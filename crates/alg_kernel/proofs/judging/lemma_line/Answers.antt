@@ -6,6 +6,6 @@ use Rattle.alg_kernel.proofs.judging.lemma_line.Goals as goal
 
 pub instance-requires-clause-sorted : goal.instance-requires-clause-sorted
 instance-requires-clause-sorted c =
-    rw c.deref.ensures.value
+    rw c.deref.ensures
     (lines-sorted c.args.grounds.now.base.now (option_map (statement_of c.args.arena.now) c.args.grounds.now.given) c.args.arena.now c.in_ok-lines.lines.items
     (fine_lines c.args.grounds.now.base.now (option_map (statement_of c.args.arena.now) c.args.grounds.now.given) (statements_of c.args.arena.now c.args.done.now) c.args.from.now (statements_of c.args.arena.now c.in_ok-lines.lines.items) c.requires.fine c.in_ok-lines.ensures.1))

@@ -1,6 +1,6 @@
 use Rattle.std.specs.Prelude.{option_copied}
 use Rattle.std.proofs.Common.{ap, sym, ◌∙◌}
-use Rattle.alg_law.proofs.LawIndexLemmas.{added, kept}
+use Rattle.alg_law.proofs.LawIndexLemmas.{added}
 use Rattle.alg_law.proofs.law_index.add.Goals as goal
 
 pub returns-in_ok-insert-in-None : goal.returns-in_ok-insert-in-None

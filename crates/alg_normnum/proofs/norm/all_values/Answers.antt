@@ -1,7 +1,6 @@
-use Rattle.std.proofs.Common.{◌≡◌, ◌∙◌, refl, sym, ap, subst, arith, length, ℕ, get_or, length-append, [], ◌∷◌, ◌+◌, ◌++◌}
+use Rattle.std.proofs.Common.{◌∙◌, sym, ap, subst, arith, length, ℕ, get_or, length-append, [], ◌∷◌}
 use Rattle.alg_terms.specs.declared.sorts.Sort.TheVariants.{Nat}
 use Rattle.alg_terms.specs.Tree.{Lit}
-use Rattle.alg_expr.specs.declared.ids.ExprId.{ExprId}
 use Rattle.alg_build.proofs.Lines.{grows-then}
 use Rattle.alg_normnum.specs.Found.{IsValued}
 use Rattle.alg_normnum.proofs.Nodes.{next_valued}

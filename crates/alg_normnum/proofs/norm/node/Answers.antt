@@ -1,6 +1,5 @@
-use Rattle.std.proofs.Common.{◌≡◌, ◌∙◌, refl, sym, length}
-use Rattle.std.proofs.lemmas.List.{length-map}
-use Rattle.alg_expr.specs.Ids.{trees_at, tree_of}
+use Rattle.std.proofs.Common.{refl, sym}
+use Rattle.alg_expr.specs.Ids.{trees_at}
 use Rattle.alg_normnum.proofs.Nodes.{none_over, not_two}
 use Rattle.alg_normnum.proofs.norm.node.Goals as goal
 

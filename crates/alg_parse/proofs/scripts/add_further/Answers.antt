@@ -7,7 +7,7 @@ use Rattle.alg_parse.proofs.scripts.add_further.Goals as goal
 pub loop-step-preserved : goal.loop-step-preserved
 loop-step-preserved c =
     let s = c.args.scope.now in
-    let k = c.args.kind in
+    let k = c.args.sort in
     let xs = c.args.further.now in
     let i = c.loop-step.step-index in
     let x = c.step-item.result in

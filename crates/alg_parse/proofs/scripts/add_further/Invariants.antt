@@ -8,5 +8,5 @@ use Rattle.alg_parse.proofs.scripts.add_further.Given as goal
 abbrev pub invariant-loop-step : goal.invariant-loop-step
 invariant-loop-step l = record {
   kept : Extends l.fn.arena l.arena;
-  told : (cs : List Call) → AreCalls l.fn.arena l.fn.procs.items cs → FurtherCalled l.scope l.kind l.further (drop l.step-index l.further) l.arena l.procs.items cs;
+  told : (cs : List Call) → AreCalls l.fn.arena l.fn.procs.items cs → FurtherCalled l.scope l.sort l.further (drop l.step-index l.further) l.arena l.procs.items cs;
 }

@@ -7,7 +7,7 @@ use Rattle.alg_parse.proofs.scripts.build_script.Goals as goal
 pub returns-clause-told : goal.returns-clause-told
 returns-clause-told c =
     let s = c.args.scope.now in
-    let k = c.args.kind in
+    let k = c.args.sort in
     let x = c.args.script.now in
     let ts = c.add_further.new.arena in
     let ps = c.add_further.new.procs.items in

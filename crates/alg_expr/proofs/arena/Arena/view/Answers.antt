@@ -20,7 +20,7 @@ pub returns-in-App-clause-shows : goal.returns-in-App-clause-shows
 returns-in-App-clause-shows c =
     let at : slice_get c.self.inside.nodes.entries c.args.id.index ≡ Some (c.unwrap.result.0.now, c.unwrap.result.1.now) = sym c.get_index.ensures.entry ∙ ap (option_map _) c.unwrap.ensures in
     let h = entry_tree c.self.inside.nodes.entries c.args.self.now c.args.id _ _ c.self.view_is c.self.invariant c.requires at in
-    rw c.as_slice.ensures.value
+    rw c.as_slice.ensures
     (h.0 ∙ ap (tree_at c.args.self.now) c.in-App.is, subst (λ (m : Node). IsBelow c.args.id.index m) c.in-App.is h.1)
 
 pub returns-in-Lit-clause-small : goal.returns-in-Lit-clause-small

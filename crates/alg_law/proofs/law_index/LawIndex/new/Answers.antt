@@ -2,7 +2,6 @@ use Rattle.std.specs.Prelude.{[], map, refl}
 use Rattle.std.proofs.Common.{◌∙◌}
 use Rattle.alg_law.specs.LawRows.{row_of}
 use Rattle.alg_law.proofs.LawIndexLemmas.{start, group_more}
-use Rattle.alg_law.proofs.Named.{add_zero-named}
 use Rattle.alg_law.proofs.law_index.LawIndex.new.Goals as goal
 
 pub loop-group-init : goal.loop-group-init

@@ -3,7 +3,7 @@ use Rattle.std.proofs.lemmas.List.{map-append}
 use Rattle.std.specs.String.{string_bytes}
 use Rattle.indexmap.proofs.CallerLemmas.{insert_entry-new}
 use Rattle.alg_binders.specs.Binders.{is_among}
-use Rattle.alg_parse.proofs.Looked.{none_looked_up}
+use Rattle.alg_parse.proofs.Lookups.{none_looked_up}
 use Rattle.alg_parse.proofs.used_names.UsedNames.add.Goals as goal
 
 pub returns-clause-added : goal.returns-clause-added

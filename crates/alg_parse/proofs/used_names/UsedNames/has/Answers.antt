@@ -1,7 +1,7 @@
 use Rattle.std.proofs.Common.{sym, ap, ◌∙◌}
 use Rattle.std.specs.String.{string_bytes}
 use Rattle.alg_binders.specs.Binders.{is_among}
-use Rattle.alg_parse.proofs.Looked.{among_looked_up, some_through}
+use Rattle.alg_parse.proofs.Lookups.{among_looked_up, some_through}
 use Rattle.alg_parse.proofs.used_names.UsedNames.has.Goals as goal
 
 pub returns : goal.returns

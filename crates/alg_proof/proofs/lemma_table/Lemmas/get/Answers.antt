@@ -11,7 +11,7 @@ returns-in-Some c =
       row =
           ap (λ o. option_map (λ r. lemma_row_of r.now) (option_map (λ x. x.now) o)) (sym c.in-Some.is)
           ∙ (ap (option_map (λ r. lemma_row_of r.now)) c.get.ensures.value
-          ∙ (looked_up (λ k. k.now) (λ r. r.now) lemma_row_of c.self.inside.rows.entries c.as_str.result.now c.self.invariant.1 ∙ ap₂ (λ ls n. row_named (rows_of ls) n) c.self.view_is c.as_str.ensures.text));
+          ∙ (looked_up (λ k. k.now) (λ r. r.now) lemma_row_of c.self.inside.rows.entries c.as_str.result.now c.self.invariant.1.0 ∙ ap₂ (λ ls n. row_named (rows_of ls) n) c.self.view_is c.as_str.ensures.text));
     }
 
 pub returns-in-None : goal.returns-in-None
@@ -20,5 +20,5 @@ returns-in-None c =
       row =
           ap (λ o. option_map (λ r. lemma_row_of r.now) (option_map (λ x. x.now) o)) (sym c.in-None.is)
           ∙ (ap (option_map (λ r. lemma_row_of r.now)) c.get.ensures.value
-          ∙ (looked_up (λ k. k.now) (λ r. r.now) lemma_row_of c.self.inside.rows.entries c.as_str.result.now c.self.invariant.1 ∙ ap₂ (λ ls n. row_named (rows_of ls) n) c.self.view_is c.as_str.ensures.text));
+          ∙ (looked_up (λ k. k.now) (λ r. r.now) lemma_row_of c.self.inside.rows.entries c.as_str.result.now c.self.invariant.1.0 ∙ ap₂ (λ ls n. row_named (rows_of ls) n) c.self.view_is c.as_str.ensures.text));
     }

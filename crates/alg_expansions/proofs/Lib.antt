@@ -1,0 +1,12 @@
+pub mod Terms
+pub mod NormalTrees
+pub mod WellSortedTrees
+pub mod KeptTrees
+pub mod ClosedTrees
+pub mod WellSortedTerms
+pub mod SameExpansions
+pub mod NormalForms
+pub mod NumeralExponents
+pub mod Weights
+pub mod Degrees
+pub mod NormalTreeSteps

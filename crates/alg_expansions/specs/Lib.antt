@@ -1,0 +1,11 @@
+pub mod Setting
+pub mod Numerals
+pub mod Closed
+pub mod Expansion
+pub mod NormalTree
+pub mod NormalForm
+pub mod Weight
+pub mod Visited
+pub mod Range
+pub mod Cost
+pub mod Laws

@@ -1,6 +1,0 @@
-use Rattle.alg_expr.specs.Arena.{Extends}
-use Rattle.alg_expr.specs.Ids.{IsIn}
-use Rattle.alg_expr.proofs.tests.nested.Given as goal
-
-abbrev pub invariant-loop : goal.invariant-loop
-invariant-loop l = Extends l.fn.arena l.arena × IsIn l.arena l.top

@@ -1,0 +1,5 @@
+pub mod Covers
+pub mod Valuing
+pub mod Signs
+pub mod Signing
+pub mod Lists

@@ -1,0 +1,16 @@
+pub mod Degrees
+pub mod Weights
+pub mod Maps
+pub mod Normal
+pub mod Canonical
+pub mod Adding
+pub mod WholeNumbers
+pub mod FractionValues
+pub mod Convolving
+pub mod Multiplying
+pub mod Negating
+pub mod Counting
+pub mod Exponents
+pub mod Singles
+pub mod CoefficientPowers
+pub mod Powers

@@ -1,0 +1,14 @@
+pub mod Form
+pub mod FormCode
+pub mod RatioCode
+pub mod FractionMeaning
+pub mod Node
+pub mod NodeFalls
+pub mod Facts
+pub mod Split
+pub mod Adding
+pub mod Aligned
+pub mod Multiplying
+pub mod Negating
+pub mod Monomials
+pub mod Powers

@@ -1,0 +1,141 @@
+-- Marks on trees.
+use Rattle.std.proofs.Common.{◌≡◌, ℕ, zero, suc, ◌<◌, ◌≤◌, List, [], ◌∷◌, length, get_or, refl, ap, sym, ◌∙◌, subst, arith, ◌⊎◌, inl, inr, All, Bool, true, false}
+use Rattle.std.specs.Prelude.{◌≢◌}
+use Rattle.std.proofs.Math.ListN.{set}
+use Rattle.std.proofs.lemmas.List.{get_or-set_same, get_or-set_other, length-set}
+use Rattle.std.proofs.lemmas.Bool.{cases_lt}
+use Rattle.std.proofs.lemmas.List.Elements.{All-head, All-tail}
+use Rattle.alg_terms.specs.declared.sorts.Sort.{Sort}
+use Rattle.alg_terms.specs.declared.symbols.Sym.{Sym}
+use Rattle.alg_terms.specs.Tree.{Tree, Lit, Var, App, Trees, of_list, to_list}
+use Rattle.alg_terms.proofs.TreeLaws.{to_list-of_list}
+use Rattle.alg_expr.specs.declared.ids.ExprId.{ExprId}
+use Rattle.alg_expr.specs.Ids.{tree_of, trees_at, IsIn}
+use Rattle.alg_expr.specs.Distinct.{AreDistinct}
+use Rattle.alg_expr.proofs.DistinctLaws.{same_ids-from_trees}
+use Rattle.alg_law.specs.Declarations.{Declaration}
+use Rattle.alg_law.specs.WellSorted.{IsWellSorted, AreWellSorted, head_mark, mark_of, marks_of, sorts_of}
+use Rattle.alg_law.proofs.WellSortedLaws.{worse-parts}
+use Rattle.alg_build.specs.Book.{Book, nothing}
+use Rattle.alg_marks.specs.Marks.{AreWanted, marked_all, AreParts, MarksParts, AreMarked}
+
+set-kept : (bs : List Bool) (i j : ℕ) → get_or bs j false ≡ true → get_or (set bs i true) j false ≡ true
+set-kept [] i j e = cc
+set-kept (b ∷ bs) zero zero e = refl
+set-kept (b ∷ bs) zero (suc j) e = e
+set-kept (b ∷ bs) (suc i) zero e = e
+set-kept (b ∷ bs) (suc i) (suc j) e = set-kept bs i j e
+
+pub kept : (args : List ExprId) (bs : List Bool) (j : ℕ) → get_or bs j false ≡ true → get_or (marked_all bs args) j false ≡ true
+kept [] bs j e = e
+kept (a ∷ args) bs j e = kept args (set bs a.index true) j (set-kept bs a.index j e)
+
+pub above : (args : List ExprId) (bs : List Bool) (n j : ℕ) → All (λ a. a.index < n) args → n ≤ j → get_or (marked_all bs args) j false ≡ get_or bs j false
+above [] bs n j h l = refl
+above (a ∷ args) bs n j h l =
+    let p : a.index < n = All-head (λ a. a.index < n) a args h in
+    above args (set bs a.index true) n j (All-tail (λ a. a.index < n) a args h) l ∙ get_or-set_other bs a.index j true false (λ e. omega (arith, p, l, e))
+
+pub size : (args : List ExprId) (bs : List Bool) → length (marked_all bs args) ≡ length bs
+size [] bs = refl
+size (a ∷ args) bs = size args (set bs a.index true) ∙ length-set bs a.index true
+
+All-cons : {A : Type 0} (P : A → Type 0) (x : A) (xs : List A) → P x → All P xs → All P (x ∷ xs)
+All-cons P x xs p h zero d l = p
+All-cons P x xs p h (suc k) d l = h k d (omega (arith, l))
+
+pub marks : (args : List ExprId) (bs : List Bool) → All (λ a. a.index < length bs) args → All (λ a. get_or (marked_all bs args) a.index false ≡ true) args
+marks [] bs h = λ k d l. absurd (omega (arith, l))
+marks (a ∷ args) bs h =
+    All-cons (λ x. get_or (marked_all (set bs a.index true) args) x.index false ≡ true) a args
+    (kept args (set bs a.index true) a.index (get_or-set_same bs a.index true false (All-head (λ a. a.index < length bs) a args h)))
+    (marks args (set bs a.index true) (λ k d l. omega (arith, All-tail (λ a. a.index < length bs) a args h k d l, length-set bs a.index true)))
+
+-- all marked trees are well sorted
+
+abbrev pub AllSorted : Book → List Bool → Type 0
+AllSorted b bs = (i : ℕ) → get_or bs i false ≡ true → IsWellSorted b.theory.declarations (get_or b.trees i nothing)
+
+eq_or : (i j : ℕ) → (i ≡ j) ⊎ (i ≢ j)
+eq_or i j = elim (cases_lt i j) [ inl l ↦ inr (λ e. omega (arith, l, e)) | inr l ↦ elim (cases_lt j i) [ inl m ↦ inr (λ e. omega (arith, m, e)) | inr m ↦ inl (omega (arith, l, m)) ] ]
+
+pub all_sorted : (b : Book) (args : List ExprId) (bs : List Bool) → All (λ a. IsWellSorted b.theory.declarations (tree_of b.trees a)) args → AllSorted b bs → AllSorted b (marked_all bs args)
+all_sorted b [] bs h s = s
+all_sorted b (a ∷ args) bs h s = all_sorted b args (set bs a.index true) (All-tail (λ a. IsWellSorted b.theory.declarations (tree_of b.trees a)) a args h) (λ i e. at i e (eq_or i a.index))
+  where
+    at : (i : ℕ) → get_or (set bs a.index true) i false ≡ true → (i ≡ a.index) ⊎ (i ≢ a.index) → IsWellSorted b.theory.declarations (get_or b.trees i nothing)
+    at i e (inl p) = subst (λ (j : ℕ). IsWellSorted b.theory.declarations (get_or b.trees j nothing)) (sym p) (All-head (λ a. IsWellSorted b.theory.declarations (tree_of b.trees a)) a args h)
+    at i e (inr p) = s i (sym (get_or-set_other bs a.index i true false p) ∙ e)
+
+list_sorted : (ds : List Declaration) (ts : List Tree) → AreWellSorted ds (of_list ts) → All (IsWellSorted ds) ts
+list_sorted ds [] h = λ k d l. absurd (omega (arith, l))
+list_sorted ds (t ∷ ts) h = let both = worse-parts (mark_of ds t) (marks_of ds (of_list ts)) h in All-cons (IsWellSorted ds) t ts both.0 (list_sorted ds ts both.1)
+
+of_map : (b : Book) (args : List ExprId) → All (IsWellSorted b.theory.declarations) (trees_at b.trees args) → All (λ a. IsWellSorted b.theory.declarations (tree_of b.trees a)) args
+of_map b [] h = λ k d l. absurd (omega (arith, l))
+of_map b (a ∷ args) h = All-cons (λ a. IsWellSorted b.theory.declarations (tree_of b.trees a)) a args (All-head (IsWellSorted b.theory.declarations) (tree_of b.trees a) (trees_at b.trees args) h) (of_map b args (All-tail (IsWellSorted b.theory.declarations) (tree_of b.trees a) (trees_at b.trees args) h))
+
+parts_sorted : (b : Book) (t : Tree) (args : List ExprId) → IsWellSorted b.theory.declarations t → AreParts t (trees_at b.trees args) → All (λ a. IsWellSorted b.theory.declarations (tree_of b.trees a)) args
+parts_sorted b (Lit s n) args h e = of_map b args (rw e (λ k d l. absurd (omega (arith, l))))
+parts_sorted b (Var v s) args h e = of_map b args (rw e (λ k d l. absurd (omega (arith, l))))
+parts_sorted b (App f s us) args h e = of_map b args (list_sorted b.theory.declarations (trees_at b.trees args) (subst (λ (u : Trees). AreWellSorted b.theory.declarations u) e (worse-parts (head_mark b.theory.declarations f s (sorts_of us)) (marks_of b.theory.declarations us) h).1))
+
+-- the parts of one tree are the same ids
+
+app_parts : (t : Tree) (f : Sym) (s : Sort) (us vs : List Tree) → t ≡ App f s (of_list us) → AreParts t vs → us ≡ vs
+app_parts (Lit s n) f r us vs e h = cc
+app_parts (Var d s) f r us vs e h = cc
+app_parts (App g r ws) f s us vs e h =
+    let p : ws ≡ of_list us = cc in
+    sym (to_list-of_list us) ∙ ap to_list (sym p ∙ h) ∙ to_list-of_list vs
+
+pub step_marked : (b : Book) (n : ℕ) (e : ExprId) (old new : List Bool) → AreDistinct b.trees → n < length b.trees → e.index ≡ n → get_or old n false ≡ true → AreMarked b (suc n) old → MarksParts b e old new → AreMarked b n new
+step_marked b n e old new distinct l is flag h m = rw m.marks (record {
+  size = size m.args old ∙ h.size;
+  sorted = all_sorted b m.args old (parts_sorted b (tree_of b.trees e) m.args (rw is (h.sorted n flag)) m.are) h.sorted;
+  parts = λ x f s args from flagged tree below. at x f s args from flagged tree below (eq_or x.index n);
+})
+  where
+    here : All (IsIn b.trees) m.args
+    here = λ k d j. omega (arith, l, is, m.below k d j)
+
+    at : (x : ExprId) (f : Sym) (s : Sort) (args : List ExprId) → n ≤ x.index → get_or (marked_all old m.args) x.index false ≡ true → tree_of b.trees x ≡ App f s (of_list (trees_at b.trees args)) → All (λ a. a.index < x.index) args → (x.index ≡ n) ⊎ (x.index ≢ n)
+        → All (λ a. get_or (marked_all old m.args) a.index false ≡ true) args
+    at x f s args from flagged tree below (inl p) =
+        let same : x ≡ e = (λ i. record { index = (p ∙ sym is) i }) in
+        let ts : trees_at b.trees args ≡ trees_at b.trees m.args = app_parts (tree_of b.trees e) f s (trees_at b.trees args) (trees_at b.trees m.args) (ap (tree_of b.trees) (sym same) ∙ tree) m.are in
+        let es : args ≡ m.args = same_ids-from_trees b.trees args m.args distinct (λ k d j. omega (arith, l, p, below k d j)) here ts in
+        subst (λ (as' : List ExprId). All (λ a. get_or (marked_all old m.args) a.index false ≡ true) as') (sym es) (marks m.args old (λ k d j. omega (arith, here k d j, h.size)))
+    at x f s args from flagged tree below (inr p) =
+        let before : get_or old x.index false ≡ true = sym (above m.args old n x.index (λ k d j. omega (arith, is, m.below k d j)) from) ∙ flagged in
+        let q = h.parts x f s args (omega (arith, from, p)) before tree below in
+        λ k d j. kept m.args old (get_or args k d).index (q k d j)
+
+pub step_unmarked : (b : Book) (n : ℕ) (flags : List Bool) → get_or flags n false ≡ false → AreMarked b (suc n) flags → AreMarked b n flags
+step_unmarked b n flags e h = record {
+  size = h.size;
+  sorted = h.sorted;
+  parts = λ x f s args from flagged tree below.
+      let p : x.index ≢ n = λ q. (let w : get_or flags n false ≡ true = rw (← q) flagged in cc) in
+      h.parts x f s args (omega (arith, from, p)) flagged tree below;
+}
+
+pub first_marked : (b : Book) (x y : ExprId) (flags : List Bool) → length flags ≡ length b.trees → ((i : ℕ) → get_or flags i false ≡ false) → IsWellSorted b.theory.declarations (tree_of b.trees x) → IsWellSorted b.theory.declarations (tree_of b.trees y) → AreMarked b (length b.trees) (marked_all flags (x ∷ y ∷ []))
+first_marked b x y flags n none p q = record {
+  size = size (x ∷ y ∷ []) flags ∙ n;
+  sorted = all_sorted b (x ∷ y ∷ []) flags (All-cons (λ a. IsWellSorted b.theory.declarations (tree_of b.trees a)) x (y ∷ []) p (All-cons (λ a. IsWellSorted b.theory.declarations (tree_of b.trees a)) y [] q (λ k d l. absurd (omega (arith, l))))) (λ i e. (let z = none i in cc));
+  parts = λ e f s args from flagged. absurd (omega (arith, from, in-list _ e.index flagged, size (x ∷ y ∷ []) flags, n));
+}
+  where
+    in-list : (bs : List Bool) (i : ℕ) → get_or bs i false ≡ true → i < length bs
+    in-list [] i e = cc
+    in-list (b ∷ bs) zero e = omega arith
+    in-list (b ∷ bs) (suc i) e = omega (arith, in-list bs i e)
+
+pub all_wanted : (b : Book) (flags : List Bool) → AreMarked b 0 flags → AreWanted b flags
+all_wanted b flags h = record { within = omega (arith, h.size); sorted = h.sorted; parts = λ e f s args flagged tree below. h.parts e f s args (omega arith) flagged tree below }
+
+pub flag_at : (bs : List Bool) (i : ℕ) (x : Bool) → i < length bs → x ≡ get_or bs i x → x ≡ true → get_or bs i false ≡ true
+flag_at [] i x l e f = absurd (omega (arith, l))
+flag_at (b ∷ bs) zero x l e f = sym e ∙ f
+flag_at (b ∷ bs) (suc i) x l e f = flag_at bs i x (omega (arith, l)) e f

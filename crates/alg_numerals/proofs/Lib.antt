@@ -1,0 +1,5 @@
+pub mod LiteralLemmas
+pub mod WholeLemmas
+pub mod SignTrees
+pub mod RelationLemmas
+pub mod ComparisonLemmas

@@ -1,0 +1,6 @@
+use Rattle.alg_numerals.proofs.relations.minus_differs_from_minus.Goals as goal
+
+pub returns-clause-concludes : goal.returns-clause-concludes
+returns-clause-concludes c =
+    let q = c.in_ok-q.ensures.compares in
+    rw (← q.first.tree, ← q.second.tree) c.neg_ne_neg.ensures.concludes

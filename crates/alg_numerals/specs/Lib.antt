@@ -1,0 +1,3 @@
+pub mod WholeTree
+pub mod Numerals
+pub mod Comparing

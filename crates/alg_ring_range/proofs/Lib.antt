@@ -1,0 +1,15 @@
+pub mod Capping
+pub mod Marking
+pub mod WalkLemmas
+pub mod TopLaws
+pub mod TopSteps
+pub mod RowLemmas
+pub mod Once
+pub mod Plans
+pub mod Adding
+pub mod Visiting
+pub mod Fractions
+pub mod Agreement
+pub mod AtomsAgreement
+pub mod WorkLemmas
+pub mod WorkAgreement
