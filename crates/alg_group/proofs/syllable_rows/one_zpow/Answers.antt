@@ -1,0 +1,5 @@
+use Rattle.alg_lemma.proofs.Named.{one_zpow-named}
+use Rattle.alg_group.proofs.syllable_rows.one_zpow.Goals as goal
+
+pub by_lemma-requires-clause-named : goal.by_lemma-requires-clause-named
+by_lemma-requires-clause-named c = one_zpow-named _ c.requires.library

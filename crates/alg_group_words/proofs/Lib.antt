@@ -1,0 +1,13 @@
+pub mod Reduced
+pub mod Words
+pub mod Runs
+pub mod Stack
+pub mod Products
+pub mod Trees
+pub mod Settled
+pub mod NormalTrees
+pub mod Weights
+pub mod Good
+pub mod Powers
+pub mod Rows
+pub mod Sizes
