@@ -14,12 +14,7 @@ use Rattle.alg_law.specs.declared.marks.Mark.{Mark}
 use Rattle.alg_law.specs.declared.marks.Mark.TheVariants.{Good, BadSort}
 use Rattle.alg_law.specs.Declarations.{Declaration}
 use Rattle.alg_law.specs.WellSorted.{built_in_mark, class_mark, has_classes}
-
--- the sort that stands at a place
-abbrev pub expected : Sort → Place → Sort
-expected s Same = s
-expected s OfNat = Nat
-expected s OfInt = Int
+use Rattle.alg_value_laws.specs.Places.{expected, sorts_over}
 
 place_is : (p : Place) (s t : Sort) → place_fits p s t ≡ true → t ≡ expected s p
 place_is Same s t e = sort_same-equal t s e
@@ -43,7 +38,7 @@ good_test false m e = cc
 nat_eq-equal : (m n : ℕ) → nat_eq m n ≡ true → m ≡ n
 nat_eq-equal m n e = grind (arith, nat_tests)
 
-pub sorts_are : (ds : List Declaration) (f : Sym) (s : Sort) (ts : List Sort) → built_in_mark ds f s ts ≡ Good → ts ≡ map (expected s) (places f)
+pub sorts_are : (ds : List Declaration) (f : Sym) (s : Sort) (ts : List Sort) → built_in_mark ds f s ts ≡ Good → ts ≡ sorts_over f s
 sorts_are ds f s ts e =
     let tests = and_parts (nat_eq (length (places f)) (length ts)) (arguments_fit f s ts) (good_test (nat_eq (length (places f)) (length ts) && arguments_fit f s ts) (class_mark (has_classes ds f s)) e) in
     places_are (places f) s ts (nat_eq-equal _ _ tests.0) (and_parts (places_fit (places f) s ts) (serves f s) tests.1).0
