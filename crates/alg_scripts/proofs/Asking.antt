@@ -1,0 +1,45 @@
+-- That a procedure is asked the same in a book with more trees.
+use Rattle.std.proofs.Common.{◌≡◌, List, refl, ap, subst, sym}
+use Rattle.std.specs.Prelude.{Result}
+use Rattle.alg_terms.specs.declared.sorts.Sort.{Sort}
+use Rattle.alg_terms.specs.Tree.{Tree, Statement}
+use Rattle.alg_expr.specs.declared.ids.Stmt.{Stmt}
+use Rattle.alg_expr.specs.Ids.{statement_of, IsStatementIn}
+use Rattle.alg_expr.proofs.ArenaLaws.{IsIn-extends, statement_of-extends}
+use Rattle.alg_law.specs.Declarations.{Declaration}
+use Rattle.alg_law.specs.WellSorted.{IsStatement}
+use Rattle.alg_law.specs.Rows.{Row}
+use Rattle.alg_lemma.specs.Library.{HoldsLibrary}
+use Rattle.alg_proof.specs.Steps.{Theory}
+use Rattle.alg_parse.specs.Told.{Call}
+use Rattle.alg_parse.specs.Fitting.{CallFits}
+use Rattle.alg_build.specs.Book.{Book, Grows, KeepsLines}
+use Rattle.alg_build.proofs.Lines.{keeps-grows, grows-then}
+use Rattle.alg_steps.specs.declared.answers.Made.{Made}
+use Rattle.alg_steps.specs.declared.answers.StepFault.{StepFault}
+use Rattle.alg_steps.specs.Stepped.{Steps}
+use Rattle.alg_steps.specs.Giving.{GivesStep}
+
+module _ (a b : Book) (k : KeepsLines a b) where
+  pub kept_in : (g : Stmt) → IsStatementIn a.trees g → IsStatementIn b.trees g
+  kept_in g h = (IsIn-extends a.trees b.trees g.lhs k.trees h.0, IsIn-extends a.trees b.trees g.rhs k.trees h.1)
+
+  pub kept_same : (g : Stmt) → IsStatementIn a.trees g → statement_of b.trees g ≡ statement_of a.trees g
+  kept_same g h = statement_of-extends a.trees b.trees g k.trees h
+
+  pub kept_sorted : (g : Stmt) → IsStatementIn a.trees g → IsStatement a.theory.declarations (statement_of a.trees g) → IsStatement b.theory.declarations (statement_of b.trees g)
+  kept_sorted g here h = rw (k.theory, kept_same g here) h
+
+  pub kept_library : HoldsLibrary a.theory.lemmas → HoldsLibrary b.theory.lemmas
+  kept_library h = subst (λ (th : Theory). HoldsLibrary th.lemmas) (sym k.theory) h
+
+  pub kept_fit : (s : Sort) (c d : Call) → c ≡ d → CallFits a.theory.declarations s d → CallFits b.theory.declarations s c
+  kept_fit s c d e h = subst (λ (x : Call). CallFits b.theory.declarations s x) (sym e) (subst (λ (th : Theory). CallFits th.declarations s d) (sym k.theory) h)
+
+  pub kept_answer : (f : Steps) (e : Book) (r : Result Made StepFault) (g : Stmt) (c d : Call) → IsStatementIn a.trees g → c ≡ d → GivesStep e r (f b.theory.declarations c (statement_of b.trees g))
+      → GivesStep e r (f a.theory.declarations d (statement_of a.trees g))
+  kept_answer f e r g c d here same h =
+      subst (GivesStep e r) (λ i. f (ap (λ (th : Theory). th.declarations) k.theory i) (same i) (kept_same g here i)) h
+
+  pub kept_grows : (c : Book) → Grows b c → Grows a c
+  kept_grows c g = grows-then a b c (keeps-grows a b k) g
