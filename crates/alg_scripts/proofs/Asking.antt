@@ -1,6 +1,7 @@
 -- That a procedure is asked the same in a book with more trees.
-use Rattle.std.proofs.Common.{◌≡◌, List, refl, ap, subst, sym}
+use Rattle.std.proofs.Common.{◌≡◌, ℕ, zero, suc, ◌<◌, List, [], ◌∷◌, length, get_or, map, refl, ap, subst, sym, arith, All}
 use Rattle.std.specs.Prelude.{Result}
+use Rattle.std.proofs.lemmas.List.Elements.{All-head, All-tail}
 use Rattle.alg_terms.specs.declared.sorts.Sort.{Sort}
 use Rattle.alg_terms.specs.Tree.{Tree, Statement}
 use Rattle.alg_expr.specs.declared.ids.Stmt.{Stmt}
@@ -8,17 +9,18 @@ use Rattle.alg_expr.specs.Ids.{statement_of, IsStatementIn}
 use Rattle.alg_expr.proofs.ArenaLaws.{IsIn-extends, statement_of-extends}
 use Rattle.alg_law.specs.Declarations.{Declaration}
 use Rattle.alg_law.specs.WellSorted.{IsStatement}
-use Rattle.alg_law.specs.Rows.{Row}
 use Rattle.alg_lemma.specs.Library.{HoldsLibrary}
 use Rattle.alg_proof.specs.Steps.{Theory}
 use Rattle.alg_parse.specs.Told.{Call}
 use Rattle.alg_parse.specs.Fitting.{CallFits}
+use Rattle.alg_parse.specs.declared.procedures.Proc.{Proc}
 use Rattle.alg_build.specs.Book.{Book, Grows, KeepsLines}
 use Rattle.alg_build.proofs.Lines.{keeps-grows, grows-then}
 use Rattle.alg_steps.specs.declared.answers.Made.{Made}
 use Rattle.alg_steps.specs.declared.answers.StepFault.{StepFault}
 use Rattle.alg_steps.specs.Stepped.{Steps}
 use Rattle.alg_steps.specs.Giving.{GivesStep}
+use Rattle.alg_steps.specs.Calling.{call_in, IsProcIn}
 
 module _ (a b : Book) (k : KeepsLines a b) where
   pub kept_in : (g : Stmt) → IsStatementIn a.trees g → IsStatementIn b.trees g
@@ -43,3 +45,13 @@ module _ (a b : Book) (k : KeepsLines a b) where
 
   pub kept_grows : (c : Book) → Grows b c → Grows a c
   kept_grows c g = grows-then a b c (keeps-grows a b k) g
+
+-- the procedure with number i of a script, from 0
+
+pub at_index : (ts : List Tree) (ps : List Proc) (i : ℕ) (p : Proc) → i < length ps → p ≡ get_or ps i p → All (IsProcIn ts) ps → IsProcIn ts p
+at_index ts ps i p l e h = subst (IsProcIn ts) (sym e) (h i p l)
+
+pub fit_at : (ts : List Tree) (ds : List Declaration) (s : Sort) (ps : List Proc) (i : ℕ) (p : Proc) → i < length ps → p ≡ get_or ps i p → All (CallFits ds s) (map (call_in ts) ps) → CallFits ds s (call_in ts p)
+fit_at ts ds s [] i p l e h = absurd (omega (arith, l))
+fit_at ts ds s (q ∷ qs) zero p l e h = subst (λ (x : Proc). CallFits ds s (call_in ts x)) (sym e) (All-head (CallFits ds s) (call_in ts q) (map (call_in ts) qs) h)
+fit_at ts ds s (q ∷ qs) (suc i) p l e h = fit_at ts ds s qs i p (omega (arith, l)) e (All-tail (CallFits ds s) (call_in ts q) (map (call_in ts) qs) h)

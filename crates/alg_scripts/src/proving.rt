@@ -13,6 +13,7 @@ ghost use Rattle.alg_steps.specs.Calling.{cover_of, IsProcIn};
 ghost use Rattle.alg_report.specs.Judged.{judged_of};
 ghost use Rattle.alg_report.specs.Seen.{calls_in};
 ghost use Rattle.alg_scripts.specs.Fates.{MayNumber, IsFateOf, IsWithout};
+ghost use Rattle.alg_scripts.specs.Posing.{IsPosed};
 
 use crate::fates::{End, Fate};
 use crate::finishing::finish;
@@ -55,6 +56,33 @@ fn run_over<P: Procedures>(
     Ok(Fate { notes, end })
 }
 
+// A goal, in a builder that has no line yet.
+#[derive(Drop)]
+struct Posed {
+    cx: Builder,
+    goal: Stmt,
+}
+
+// a builder over the declarations of a goal, with a copy of the goal
+fn posed(
+    alloc: Global,
+    lemmas: &Rc<Lemmas>,
+    file: &FileTree,
+    prefix: usize,
+    local: &[Declared],
+    stmt: Stmt,
+) -> Result<Posed, Memory>
+    requires goal { IsGoalIn file.now.arena file.now.shared prefix local.now stmt }
+    requires lemmas { rows_of lemmas.now.value ≡ lemma_table }
+    ensures { IfOk result (IsPosed (take prefix file.now.shared ++ declarations_of file.now.arena local.now) (statement_of file.now.arena stmt)) }
+{
+    let base = Base::joined(alloc, &file.shared, prefix, &file.arena, local)?;
+    let lemmas = lemmas.clone()?;
+    let mut cx = Builder::new(alloc, base, lemmas)?;
+    let goal = cx.import(&file.arena, stmt)?;
+    Ok(Posed { cx, goal })
+}
+
 // what becomes of a goal without a procedure; no script is without one
 fn without_procedure(alloc: Global) -> Fate
     ensures { IsWithout result }
@@ -93,9 +121,6 @@ pub fn prove_goal<P: Procedures>(
     if script.is_empty() {
         return Ok(without_procedure(alloc));
     }
-    let base = Base::joined(alloc, &file.shared, prefix, &file.arena, local)?;
-    let lemmas = lemmas.clone()?;
-    let mut cx = Builder::new(alloc, base, lemmas)?;
-    let goal = cx.import(&file.arena, stmt)?;
+    let Posed { cx, goal } = posed(alloc, lemmas, file, prefix, local, stmt)?;
     run_over::<P>(alloc, cx, goal, &file.arena, script, exts, number)
 }
