@@ -1,6 +1,5 @@
 -- That a procedure is asked the same in a book with more trees.
 use Rattle.std.proofs.Common.{◌≡◌, ℕ, zero, suc, ◌<◌, List, [], ◌∷◌, length, get_or, map, refl, ap, subst, sym, arith, All}
-use Rattle.std.specs.Prelude.{Result}
 use Rattle.std.proofs.lemmas.List.Elements.{All-head, All-tail}
 use Rattle.alg_terms.specs.declared.sorts.Sort.{Sort}
 use Rattle.alg_terms.specs.Tree.{Tree, Statement}
@@ -16,10 +15,6 @@ use Rattle.alg_parse.specs.Fitting.{CallFits}
 use Rattle.alg_parse.specs.declared.procedures.Proc.{Proc}
 use Rattle.alg_build.specs.Book.{Book, Grows, KeepsLines}
 use Rattle.alg_build.proofs.Lines.{keeps-grows, grows-then}
-use Rattle.alg_steps.specs.declared.answers.Made.{Made}
-use Rattle.alg_steps.specs.declared.answers.StepFault.{StepFault}
-use Rattle.alg_steps.specs.Stepped.{Steps}
-use Rattle.alg_steps.specs.Giving.{GivesStep}
 use Rattle.alg_steps.specs.Calling.{call_in, IsProcIn}
 
 module _ (a b : Book) (k : KeepsLines a b) where
@@ -37,11 +32,6 @@ module _ (a b : Book) (k : KeepsLines a b) where
 
   pub kept_fit : (s : Sort) (c d : Call) → c ≡ d → CallFits a.theory.declarations s d → CallFits b.theory.declarations s c
   kept_fit s c d e h = subst (λ (x : Call). CallFits b.theory.declarations s x) (sym e) (subst (λ (th : Theory). CallFits th.declarations s d) (sym k.theory) h)
-
-  pub kept_answer : (f : Steps) (e : Book) (r : Result Made StepFault) (g : Stmt) (c d : Call) → IsStatementIn a.trees g → c ≡ d → GivesStep e r (f b.theory.declarations c (statement_of b.trees g))
-      → GivesStep e r (f a.theory.declarations d (statement_of a.trees g))
-  kept_answer f e r g c d here same h =
-      subst (GivesStep e r) (λ i. f (ap (λ (th : Theory). th.declarations) k.theory i) (same i) (kept_same g here i)) h
 
   pub kept_grows : (c : Book) → Grows b c → Grows a c
   kept_grows c g = grows-then a b c (keeps-grows a b k) g

@@ -3,5 +3,5 @@ pub mod Leading
 pub mod Asking
 pub mod Stepping
 pub mod Entered
-pub mod Finishing
+pub mod Concluding
 pub mod Telling

@@ -1,7 +1,9 @@
 -- A script, one procedure after another.
 use Rattle.std.proofs.Common.{◌≡◌, ℕ, zero, suc, ◌+◌, ◌<◌, ◌≤◌, List, [], ◌∷◌, ◌++◌, length, get_or, take, drop, map, refl, ap, sym, ◌∙◌, subst, arith, add-one, append_assoc, append-nil, Some, None, Ok, Err}
-use Rattle.std.specs.Prelude.{◌≢◌, Option, Result, All, ⊤}
-use Rattle.std.proofs.Math.Seq.{drop-cons}
+use Rattle.std.specs.Prelude.{◌≢◌, Option, Result, All, IfOk, OnOk, Bool, true, false, is_some, ⊤}
+use Rattle.std.specs.Global.{Vec}
+use Rattle.std.proofs.lemmas.List.{length-map}
+use Rattle.alg_terms.specs.declared.sorts.Sort.{Sort}
 use Rattle.alg_terms.specs.Tree.{Tree, Statement}
 use Rattle.alg_expr.specs.declared.ids.Stmt.{Stmt}
 use Rattle.alg_expr.specs.Ids.{statement_of, IsStatementIn}
@@ -11,6 +13,7 @@ use Rattle.alg_law.specs.Declarations.{Declaration}
 use Rattle.alg_law.specs.WellSorted.{IsStatement}
 use Rattle.alg_proof.specs.Steps.{Theory}
 use Rattle.alg_parse.specs.Told.{Call}
+use Rattle.alg_parse.specs.Fitting.{CallFits}
 use Rattle.alg_parse.specs.declared.procedures.Proc.{Proc}
 use Rattle.alg_build.specs.declared.outcome.Outcome.{Outcome}
 use Rattle.alg_build.specs.declared.outcome.Outcome.TheVariants as outcome
@@ -64,6 +67,9 @@ rest_calls ts ps i p l e = rw add-one (go ts ps i p l e)
     go ts [] i p l e = absurd (omega (arith, l))
     go ts (q ∷ qs) zero p l e = ap (λ x. call_in ts x ∷ map (call_in ts) qs) (sym e)
     go ts (q ∷ qs) (suc i) p l e = go ts qs i p (omega (arith, l)) e
+
+pub some_calls : (ts : List Tree) (ps : List Proc) → 0 < length ps → 0 < length (map (call_in ts) ps)
+some_calls ts ps l = omega (arith, l, length-map ps (call_in ts))
 
 pub no_calls : (ts : List Tree) (ps : List Proc) (i : ℕ) → length ps ≤ i → drop i (map (call_in ts) ps) ≡ []
 no_calls ts [] zero l = refl
@@ -151,6 +157,9 @@ module _ (f : Steps) (b0 : Book) (first : Statement) (calls : List Call) where
         subst (λ (y : State). IsRunning a (i + 1) y later (ns ++ listed note)) (sym moves.0)
         (subst (λ (xs : List Back). IsRunning a (i + 1) (record { goal = next; closed = None }) xs (ns ++ listed note)) (sym moves.1) (running_left a c next x note e rest g gives leads))
 
+    pub asked_fits : (c : Call) → CallFits b0.theory.declarations first.sort c → CallFits b.theory.declarations state.goal.sort c
+    asked_fits c fits = subst (λ (k : Sort). CallFits b.theory.declarations k c) (sym h.sort) (subst (λ (th : Theory). CallFits th.declarations first.sort c) (sym h.theory) fits)
+
     pub running_next : (a : Book) (c : Call) (m : Made) (later : List Back) (s : State) (ms : List Note) → state.closed ≡ None → drop i calls ≡ c ∷ drop (i + 1) calls → Grows b a
         → GivesStep a (Ok m) (f b.theory.declarations c (statement_of b.trees state.goal)) → Leads a m.outcome (statement_of b.trees state.goal) → Moves state.goal m.outcome backs later s → ms ≡ ns ++ listed m.note
         → IsRunning a (i + 1) s later ms
@@ -179,6 +188,24 @@ module _ (f : Steps) (b0 : Book) (first : Statement) (calls : List Call) where
         ∙ ap (λ t. after (i + 1) t (λ o. judged_from f b0.theory.declarations (i + 1 + 1) o (drop (i + 1) calls))) is))
         notes verdict
 
+    pub running_failed : {E : Type 0} (a : Book) (c : Call) (x : StepFault) (n : ℕ) (v : Vec Note) (r : Result Ran E) → 0 < length calls → state.closed ≡ None → drop i calls ≡ c ∷ drop (i + 1) calls
+        → GivesStep a (Err x) (f b.theory.declarations c (statement_of b.trees state.goal)) → v.items ≡ ns → n ≡ i + 1 → IfOk r (λ _. x ≢ fault.Fails Memory)
+        → IfOk r (λ y. y ≡ record { notes = v; ending = ending.Failed n (cause_of x) }) → IfOk r (λ y. Tells a y (judged_of f b0.theory.declarations first calls))
+    running_failed a c x n v (Ok y) some e rest gives same number other is =
+        running_fault a c x y some e rest gives other (ap (λ (z : Ran). z.notes.items) is ∙ same) (ap (λ (z : Ran). verdict_of a z.ending) is ∙ ap (λ k. Failed k (cause_of x)) number)
+    running_failed a c x n v (Err m) some e rest gives same number other is = tt
+
+    running_stays : (a : Book) → Grows b a → Stays b0 a
+    running_stays a g = record {
+      declarations = ap (λ (th : Theory). th.declarations) (g.theory ∙ h.theory);
+      lemmas = ap (λ (th : Theory). th.lemmas) (g.theory ∙ h.theory);
+      trees = Extends-then b0.trees b.trees a.trees h.extends g.trees;
+    }
+
+    pub failed_stays : {T E : Type 0} (a : Book) (r : Result T E) → Grows b a → OnOk r (Stays b0 a)
+    failed_stays a (Ok y) g = running_stays a g
+    failed_stays a (Err m) g = tt
+
     -- the goal was closed before
     pub running_no_goals : (a : Book) (c : Call) (line : ℕ) (r : Ran) → 0 < length calls → state.closed ≡ Some line → drop i calls ≡ c ∷ drop (i + 1) calls → r.notes.items ≡ ns → verdict_of a r.ending ≡ Failed (i + 1) NoGoals
         → Tells a r (judged_of f b0.theory.declarations first calls)
@@ -197,6 +224,16 @@ module _ (f : Steps) (b0 : Book) (first : Statement) (calls : List Call) where
         go : (o : Option Statement) → judged_from f b0.theory.declarations (i + 1) o [] ≡ ends (verdict_by o)
         go None = refl
         go (Some s) = refl
+
+-- whether the goal is closed
+
+pub closed_by : (o : Option ℕ) → is_some o ≡ true → (line : ℕ) × (o ≡ Some line)
+closed_by None e = absurd (cc)
+closed_by (Some line) e = (line, refl)
+
+pub closed_by_none : (o : Option ℕ) → is_some o ≡ false → o ≡ None
+closed_by_none None e = refl
+closed_by_none (Some line) e = absurd (cc)
 
 -- at the end of a script
 

@@ -49,7 +49,7 @@ fn run_over<P: Procedures>(
     requires fit { All (CallFits cx.theory.declarations goal.sort) (calls_in from.now script.now) }
     requires even { IsEven exts.now.num.now exts.now.num_on.now exts.now.sign.now exts.now.sign_on.now }
     requires number { MayNumber number }
-    ensures { IfOk result (IsFateOf number cx.theory.declarations (statement_of cx.trees goal) (judged_of (P.step (cover_of (λ x f. covered x f) (λ x f. handled x f) exts.now.num.now exts.now.num_on.now exts.now.sign.now exts.now.sign_on.now)) cx.theory.declarations (statement_of cx.trees goal) (calls_in from.now script.now))) }
+    ensures { IfOk result (IsFateOf number cx.theory.declarations (statement_of cx.trees goal) (judged_of (P.step (cover_of (λ x f. (⟦<dyn NumExt as NumExt>⟧ x.vtable).covered x.value f) (λ x f. (⟦<dyn SignExt as SignExt>⟧ x.vtable).handled x.value f) exts.now.num.now exts.now.num_on.now exts.now.sign.now exts.now.sign_on.now)) cx.theory.declarations (statement_of cx.trees goal) (calls_in from.now script.now))) }
 {
     let Ran { notes, ending } = run_script::<P>(&mut cx, goal, from, script, exts)?;
     let end = finish(alloc, cx, goal, ending, number)?;
@@ -64,7 +64,7 @@ struct Posed {
 }
 
 // a builder over the declarations of a goal, with a copy of the goal
-fn posed(
+fn pose(
     alloc: Global,
     lemmas: &Rc<Lemmas>,
     file: &FileTree,
@@ -116,11 +116,11 @@ pub fn prove_goal<P: Procedures>(
     requires fit { All (CallFits (take prefix file.now.shared ++ declarations_of file.now.arena local.now) stmt.sort) (calls_in file.now.arena script.now) }
     requires even { IsEven exts.now.num.now exts.now.num_on.now exts.now.sign.now exts.now.sign_on.now }
     requires number { MayNumber number }
-    ensures { IfOk result (IsFateOf number (take prefix file.now.shared ++ declarations_of file.now.arena local.now) (statement_of file.now.arena stmt) (judged_of (P.step (cover_of (λ x f. covered x f) (λ x f. handled x f) exts.now.num.now exts.now.num_on.now exts.now.sign.now exts.now.sign_on.now)) (take prefix file.now.shared ++ declarations_of file.now.arena local.now) (statement_of file.now.arena stmt) (calls_in file.now.arena script.now))) }
+    ensures { IfOk result (IsFateOf number (take prefix file.now.shared ++ declarations_of file.now.arena local.now) (statement_of file.now.arena stmt) (judged_of (P.step (cover_of (λ x f. (⟦<dyn NumExt as NumExt>⟧ x.vtable).covered x.value f) (λ x f. (⟦<dyn SignExt as SignExt>⟧ x.vtable).handled x.value f) exts.now.num.now exts.now.num_on.now exts.now.sign.now exts.now.sign_on.now)) (take prefix file.now.shared ++ declarations_of file.now.arena local.now) (statement_of file.now.arena stmt) (calls_in file.now.arena script.now))) }
 {
     if script.is_empty() {
         return Ok(without_procedure(alloc));
     }
-    let Posed { cx, goal } = posed(alloc, lemmas, file, prefix, local, stmt)?;
+    let Posed { cx, goal } = pose(alloc, lemmas, file, prefix, local, stmt)?;
     run_over::<P>(alloc, cx, goal, &file.arena, script, exts, number)
 }

@@ -146,7 +146,7 @@ pub fn run_script<P: Procedures>(
     requires procedures { All (IsProcIn from.now) script.now }
     requires fit { All (CallFits cx.old.theory.declarations goal.sort) (calls_in from.now script.now) }
     requires even { IsEven exts.now.num.now exts.now.num_on.now exts.now.sign.now exts.now.sign_on.now }
-    ensures tells { IfOk result (λ r. Tells cx.new r (judged_of (P.step (cover_of (λ x f. covered x f) (λ x f. handled x f) exts.now.num.now exts.now.num_on.now exts.now.sign.now exts.now.sign_on.now)) cx.old.theory.declarations (statement_of cx.old.trees goal) (calls_in from.now script.now))) }
+    ensures tells { IfOk result (λ r. Tells cx.new r (judged_of (P.step (cover_of (λ x f. (⟦<dyn NumExt as NumExt>⟧ x.vtable).covered x.value f) (λ x f. (⟦<dyn SignExt as SignExt>⟧ x.vtable).handled x.value f) exts.now.num.now exts.now.num_on.now exts.now.sign.now exts.now.sign_on.now)) cx.old.theory.declarations (statement_of cx.old.trees goal) (calls_in from.now script.now))) }
     ensures proves { IfOk result (λ r. ProvesEnd cx.new r.ending (statement_of cx.old.trees goal)) }
     ensures stays { OnOk result (Stays cx.old cx.new) }
 {

@@ -30,7 +30,7 @@ pub fn step<P: Procedures>(
     requires procedure { IsProcIn from.now procedure.now }
     requires fits { CallFits cx.old.theory.declarations goal.sort (call_in from.now procedure.now) }
     requires even { IsEven exts.now.num.now exts.now.num_on.now exts.now.sign.now exts.now.sign_on.now }
-    ensures answer { GivesStep cx.new result (P.step (cover_of (λ x f. covered x f) (λ x f. handled x f) exts.now.num.now exts.now.num_on.now exts.now.sign.now exts.now.sign_on.now) cx.old.theory.declarations (call_in from.now procedure.now) (statement_of cx.old.trees goal)) }
+    ensures answer { GivesStep cx.new result (P.step (cover_of (λ x f. (⟦<dyn NumExt as NumExt>⟧ x.vtable).covered x.value f) (λ x f. (⟦<dyn SignExt as SignExt>⟧ x.vtable).handled x.value f) exts.now.num.now exts.now.num_on.now exts.now.sign.now exts.now.sign_on.now) cx.old.theory.declarations (call_in from.now procedure.now) (statement_of cx.old.trees goal)) }
     ensures leads { IfOk result (λ m. Leads cx.new m.outcome (statement_of cx.old.trees goal)) }
     ensures grows { Grows cx.old cx.new }
 {

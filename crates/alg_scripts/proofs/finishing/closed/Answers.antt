@@ -1,4 +1,4 @@
-use Rattle.alg_scripts.proofs.Finishing.{none_given, closed_is}
+use Rattle.alg_scripts.proofs.Concluding.{none_given, closed_is}
 use Rattle.alg_scripts.proofs.finishing.closed.Goals as goal
 
 pub check-requires-clause-may : goal.check-requires-clause-may

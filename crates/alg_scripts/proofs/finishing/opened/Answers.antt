@@ -1,4 +1,4 @@
-use Rattle.alg_scripts.proofs.Finishing.{some_given, open_is}
+use Rattle.alg_scripts.proofs.Concluding.{some_given, open_is}
 use Rattle.alg_scripts.proofs.finishing.opened.Goals as goal
 
 pub show-requires-clause-here : goal.show-requires-clause-here

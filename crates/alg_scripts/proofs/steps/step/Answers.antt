@@ -1,4 +1,4 @@
-use Rattle.alg_scripts.proofs.Asking.{kept_in, kept_sorted, kept_library, kept_fit, kept_answer, kept_grows}
+use Rattle.alg_scripts.proofs.Asking.{kept_in, kept_sorted, kept_library, kept_fit, kept_same, kept_grows}
 use Rattle.alg_scripts.proofs.steps.step.Goals as goal
 
 pub call-requires-clause-here : goal.call-requires-clause-here
@@ -14,7 +14,9 @@ pub call-requires-clause-fits : goal.call-requires-clause-fits
 call-requires-clause-fits g c = kept_fit _ _ c.imported.ensures.keeps _ _ _ c.in-Ok.ensures.call c.requires.fits
 
 pub returns-in-Ok-clause-answer : goal.returns-in-Ok-clause-answer
-returns-in-Ok-clause-answer g c = kept_answer _ _ c.imported.ensures.keeps _ _ _ c.args.goal _ _ c.requires.here c.in-Ok.ensures.call c.call.ensures.answer
+returns-in-Ok-clause-answer g c =
+    let k = c.imported.ensures.keeps in
+    rw (k.theory, kept_same _ _ k c.args.goal c.requires.here, c.in-Ok.ensures.call) at c.call.ensures.answer
 
 pub returns-in-Ok-clause-grows : goal.returns-in-Ok-clause-grows
 returns-in-Ok-clause-grows g c = kept_grows _ _ c.imported.ensures.keeps _ c.call.ensures.grows

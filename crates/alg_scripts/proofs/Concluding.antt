@@ -1,16 +1,20 @@
 -- That a script which came to its end gives the goal's fate.
 use Rattle.std.proofs.Common.{◌≡◌, ℕ, List, [], ◌∷◌, length, Option, Some, None, refl, ap, sym, ◌∙◌, subst, arith}
-use Rattle.std.specs.Prelude.{IfSome, IfOk, Result, string_bytes}
+use Rattle.std.specs.Prelude.{All, IfSome, IfOk, Result}
+use Rattle.alg_terms.specs.declared.sorts.Sort.{Sort}
 use Rattle.alg_terms.specs.Tree.{Tree, Statement}
 use Rattle.alg_expr.specs.declared.ids.Stmt.{Stmt}
 use Rattle.alg_expr.specs.Ids.{statement_of, IsStatementIn}
 use Rattle.alg_expr.proofs.ArenaLaws.{IsIn-extends, statement_of-extends}
 use Rattle.alg_law.specs.Declarations.{Declaration}
+use Rattle.alg_law.specs.WellSorted.{IsStatement}
 use Rattle.alg_certificate_lines.specs.Arguments.{HaveArguments}
 use Rattle.alg_parse.specs.Told.{Call}
+use Rattle.alg_parse.specs.Fitting.{CallFits}
 use Rattle.alg_parse.specs.declared.procedures.Proc.{Proc}
 use Rattle.alg_build.specs.Book.{Book}
 use Rattle.alg_show.specs.Text.{shown_text}
+use Rattle.alg_show.specs.ReadingBack.{AllWritable}
 use Rattle.alg_steps.specs.Stepped.{Steps}
 use Rattle.alg_report.specs.Judged.{Verdict, Closed, Open, Judged, judged_of}
 use Rattle.alg_report.specs.Certificate.{MayBeGiven, claims}
@@ -23,6 +27,9 @@ use Rattle.alg_scripts.specs.declared.running.Ending.{Ending}
 use Rattle.alg_scripts.specs.declared.running.Ran.{Ran}
 use Rattle.alg_scripts.specs.Fates.{IsProofOf, IsEnd, IsFateOf, IsWithout}
 use Rattle.alg_scripts.specs.Running.{Tells, ProvesEnd, verdict_of, Stays}
+use Rattle.alg_scripts.specs.declared.proving.Posed.{Posed}
+use Rattle.alg_scripts.specs.Posing.{IsPosed}
+use Rattle.alg_scripts.proofs.Entered.{have_arguments}
 
 pub none_given : (ds : List Declaration) (g : Option Statement) → g ≡ None → IfSome g (MayBeGiven ds)
 none_given ds g e = rw e tt
@@ -74,3 +81,16 @@ no_calls_in ts (p ∷ ps) e = absurd (omega (arith, e))
 pub without_is : (number : Option ℕ) (f : Steps) (ds : List Declaration) (s : Statement) (calls : List Call) (x : Fate) → calls ≡ [] → IsWithout x → IsFateOf number ds s (judged_of f ds s calls) x
 unfolding judged_of
 without_is number f ds s calls x e h = rw e (record { notes = h.0; end = rw h.1 refl })
+
+-- a goal stays well sorted where it is copied
+pub still_sorted : (ds es : List Declaration) (s t : Statement) → ds ≡ es → s ≡ t → IsStatement es t → IsStatement ds s
+still_sorted ds es s t p q h = subst (λ (x : List Declaration). IsStatement x s) (sym p) (subst (λ (y : Statement). IsStatement es y) (sym q) h)
+
+-- what was asked of the file's goal holds of the copy
+
+pub posed_arguments : (ds : List Declaration) (s : Statement) (p : Posed) → IsPosed ds s p → AllWritable ds → HaveArguments p.cx.theory.declarations
+posed_arguments ds s p h w = subst HaveArguments (sym h.declarations) (have_arguments ds w)
+
+pub posed_fit : (ds : List Declaration) (s : Statement) (p : Posed) → IsPosed ds s p → (calls : List Call) → All (CallFits ds s.sort) calls → All (CallFits p.cx.theory.declarations p.goal.sort) calls
+posed_fit ds s p h calls fit =
+    subst (λ (k : Sort). All (CallFits p.cx.theory.declarations k) calls) (sym (ap (λ (t : Statement). t.sort) h.statement)) (subst (λ (es : List Declaration). All (CallFits es s.sort) calls) (sym h.declarations) fit)
