@@ -1,5 +1,6 @@
 use Rattle.std.proofs.Common.{◌≡◌, ◌∙◌, ap}
 use Rattle.alg_build.specs.Book.{Book}
+use Rattle.alg_proof.specs.LemmaRows.{rows_of}
 use Rattle.alg_proof.specs.Steps.{Theory}
 use Rattle.alg_scripts.proofs.Concluding.{still_sorted}
 use Rattle.alg_scripts.proofs.proving.pose.Goals as goal
@@ -10,7 +11,7 @@ returns c =
     let declarations = ap (λ (t : Theory). t.declarations) over ∙ c.in_ok-base.ensures in
     record {
       declarations = declarations;
-      lemmas = ap (λ (t : Theory). t.lemmas) over ∙ (cc);
+      lemmas = ap (λ (t : Theory). t.lemmas) over ∙ ap rows_of c.in_ok-lemmas.ensures.cases ∙ c.requires.lemmas;
       given = ap (λ (t : Theory). t.given) over;
       here = c.in_ok-goal.ensures.here;
       statement = c.in_ok-goal.ensures.statement;
