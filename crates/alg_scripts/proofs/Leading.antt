@@ -1,12 +1,12 @@
 -- That backs keep leading back, as the book grows and once a statement is given.
-use Rattle.std.proofs.Common.{◌≡◌, ℕ, suc, List, [], ◌∷◌, ◌++◌, length, refl, ap, sym, ◌∙◌, subst, arith, Some, None, append-nil, length-append}
+use Rattle.std.proofs.Common.{◌≡◌, ℕ, suc, List, [], ◌∷◌, ◌++◌, length, refl, ap, sym, ◌∙◌, subst, arith, Some, append-nil, length-append}
 use Rattle.std.specs.Prelude.{slice_get}
 use Rattle.alg_terms.specs.Tree.{Statement}
 use Rattle.alg_proof.specs.Steps.{Rest}
 use Rattle.alg_build.specs.declared.outcome.Back.{Back}
 use Rattle.alg_build.specs.declared.outcome.Back.TheVariants as back
 use Rattle.alg_build.specs.Backs.{LeadsBack, LeadAllBack}
-use Rattle.alg_build.specs.Book.{Book, Grows, Rests, Concludes, Proves}
+use Rattle.alg_build.specs.Book.{Book, Grows, Rests, Concludes}
 use Rattle.alg_build.proofs.Leading.{leads-grows}
 
 pub lead_all-grows : (a b : Book) (xs : List Back) (s t : Statement) → Grows a b → LeadAllBack a xs s t → LeadAllBack b xs s t

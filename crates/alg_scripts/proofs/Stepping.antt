@@ -1,6 +1,6 @@
 -- A script, one procedure after another.
-use Rattle.std.proofs.Common.{◌≡◌, ℕ, zero, suc, ◌+◌, ◌<◌, ◌≤◌, List, [], ◌∷◌, ◌++◌, length, get_or, take, drop, map, refl, ap, sym, ◌∙◌, subst, arith, add-one, append_assoc, append-nil, Some, None, Ok, Err}
-use Rattle.std.specs.Prelude.{◌≢◌, Option, Result, All, IfOk, OnOk, Bool, true, false, is_some, ⊤}
+use Rattle.std.proofs.Common.{◌≡◌, ℕ, zero, suc, ◌+◌, ◌<◌, ◌≤◌, List, [], ◌∷◌, ◌++◌, length, get_or, drop, map, refl, ap, sym, ◌∙◌, subst, arith, add-one, append_assoc, append-nil, Some, None, Ok, Err}
+use Rattle.std.specs.Prelude.{◌≢◌, Option, Result, IfOk, OnOk, true, false, is_some}
 use Rattle.std.specs.Global.{Vec}
 use Rattle.std.proofs.lemmas.List.{length-map}
 use Rattle.alg_terms.specs.declared.sorts.Sort.{Sort}
@@ -8,7 +8,7 @@ use Rattle.alg_terms.specs.Tree.{Tree, Statement}
 use Rattle.alg_expr.specs.declared.ids.Stmt.{Stmt}
 use Rattle.alg_expr.specs.Ids.{statement_of, IsStatementIn}
 use Rattle.alg_expr.specs.Arena.{Extends}
-use Rattle.alg_expr.proofs.ArenaLaws.{Extends-self, Extends-then, IsIn-extends, statement_of-extends}
+use Rattle.alg_expr.proofs.ArenaLaws.{Extends-then, IsIn-extends, statement_of-extends}
 use Rattle.alg_law.specs.Declarations.{Declaration}
 use Rattle.alg_law.specs.WellSorted.{IsStatement}
 use Rattle.alg_proof.specs.Steps.{Theory}
@@ -29,15 +29,13 @@ use Rattle.alg_steps.specs.declared.answers.StepFault.TheVariants as fault
 use Rattle.alg_steps.specs.Stepped.{Steps, Stepped, closes, leaves, fails}
 use Rattle.alg_steps.specs.Giving.{stepped, GivesStep}
 use Rattle.alg_steps.specs.Calling.{call_in}
-use Rattle.alg_report.specs.declared.causes.FailCause.{FailCause}
 use Rattle.alg_report.specs.declared.causes.FailCause.TheVariants.{NoGoals}
 use Rattle.alg_report.specs.Judged.{Verdict, Closed, Open, Failed, Judged, ends, listed, noting, cause_of, after, judged_from, judged_of}
 use Rattle.alg_report.specs.Certificate.{MayBeGiven}
 use Rattle.alg_scripts.specs.declared.running.State.{State}
-use Rattle.alg_scripts.specs.declared.running.Ending.{Ending}
 use Rattle.alg_scripts.specs.declared.running.Ending.TheVariants as ending
 use Rattle.alg_scripts.specs.declared.running.Ran.{Ran}
-use Rattle.alg_scripts.specs.Running.{Moves, left_by, current, IsClosedBy, Stands, KeptBy, IsKept, verdict_by, verdict_of, IsEndOf, Tells, LeavesNone, LeavesOpen, ProvesEnd, Stays}
+use Rattle.alg_scripts.specs.Running.{Moves, left_by, current, IsClosedBy, Stands, KeptBy, IsKept, verdict_by, verdict_of, IsEndOf, Tells, LeavesNone, LeavesOpen, Stays}
 use Rattle.alg_scripts.proofs.Leading.{lead_all-grows, lead_all-push, leads-sort, rests-leads_all, rests-concludes}
 
 -- a goal in a book that has grown

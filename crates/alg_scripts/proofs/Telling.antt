@@ -1,5 +1,5 @@
 -- What is said of a goal is its entry.
-use Rattle.std.proofs.Common.{◌≡◌, ℕ, List, [], ◌∷◌, ◌++◌, refl, ap, sym, ◌∙◌, append_assoc, Option}
+use Rattle.std.proofs.Common.{◌≡◌, ℕ, List, ◌∷◌, ◌++◌, refl, ap, sym, ◌∙◌, append_assoc, Option}
 use Rattle.std.specs.Prelude.{codes}
 use Rattle.alg_terms.specs.Tree.{Statement}
 use Rattle.alg_law.specs.Declarations.{Declaration}

@@ -1,7 +1,6 @@
-use Rattle.std.proofs.Common.{◌≡◌, ◌+◌, ◌<◌, ◌≤◌, length, refl, ap, sym, ◌∙◌, arith}
+use Rattle.std.proofs.Common.{◌+◌, ◌<◌, ◌≤◌, length, refl, ap, sym, ◌∙◌, arith}
 use Rattle.alg_report.specs.declared.causes.FailCause.TheVariants.{NoGoals}
 use Rattle.alg_report.specs.Judged.{Failed}
-use Rattle.alg_steps.specs.Calling.{call_in}
 use Rattle.alg_scripts.proofs.Asking.{fit_at}
 use Rattle.alg_scripts.proofs.Stepping.{some_calls, rest_calls, no_calls, closed_by, closed_by_none, asked_fits, running_next, running_failed, running_no_goals, running_end, failed_stays}
 use Rattle.alg_scripts.proofs.running.run_script.Goals as goal
