@@ -1,0 +1,10 @@
+pub mod Judged
+pub mod Texts
+pub mod Tallies
+pub mod Report
+pub mod Certificate
+pub mod Effects
+pub mod Plan
+pub mod Order
+pub mod Worked
+pub mod Seen
