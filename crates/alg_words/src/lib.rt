@@ -2,6 +2,7 @@
 #![tactic(auto)]
 
 mod command;
+mod count;
 pub mod job;
 
 pub use alg_expr::Memory;
