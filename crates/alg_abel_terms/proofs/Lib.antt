@@ -1,0 +1,7 @@
+pub mod Terms
+pub mod NormalTrees
+pub mod SameCombinations
+pub mod Weights
+pub mod WellSortedForms
+pub mod Combining
+mod Rows
