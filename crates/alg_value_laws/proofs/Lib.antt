@@ -1,3 +1,5 @@
 pub mod Places
 pub mod Fractions
 pub mod Valuing
+pub mod LeastSums
+pub mod Ranges

@@ -1,5 +1,5 @@
 -- The value of a well sorted tree has a numeral in the tree's sort.
-use Rattle.std.proofs.Common.{◌≡◌, ℕ, ℤ, pos, Bool, true, false, ◌&&◌, List, [], ◌∷◌, map, refl, sym, subst, Some, None, Option, ◌⊎◌, inl, inr}
+use Rattle.std.proofs.Common.{◌≡◌, ℕ, ℤ, pos, Bool, true, false, ◌&&◌, List, [], ◌∷◌, map, refl, sym, ◌∙◌, subst, Some, None, Option, ◌⊎◌, inl, inr}
 use Rattle.std.specs.Prelude.{if◌then◌else◌, nat_lt, ◌^◌, ⊤}
 use Rattle.std.proofs.lemmas.Bool.{and_parts}
 use Rattle.alg_terms.specs.declared.sorts.Sort.{Sort}
@@ -14,9 +14,9 @@ use Rattle.alg_law.specs.declared.marks.Mark.TheVariants.{Good}
 use Rattle.alg_law.specs.Declarations.{Declaration}
 use Rattle.alg_law.specs.Having.{has_class}
 use Rattle.alg_law.specs.Computing.{natural_value, integer_value}
-use Rattle.alg_law.specs.WellSorted.{IsWellSorted, AreWellSorted, head_mark, sort_mark, symbol_mark, mark_of, marks_of, sorts_of}
+use Rattle.alg_law.specs.WellSorted.{IsWellSorted, AreWellSorted, head_mark, sort_mark, symbol_mark, mark_of, marks_of, sorts_of, built_in_mark}
 use Rattle.alg_law.proofs.WellSortedLaws.{worse-parts}
-use Rattle.alg_values.specs.Setting.{setting}
+use Rattle.alg_values.specs.Setting.{Classes, setting}
 use Rattle.alg_values.specs.Arithmetic.{whole_number, size_of, where_has, inverse_of, arithmetic_of, sum_value, product_value, power_value, integer_power_value}
 use Rattle.alg_values.specs.Ranges.{cross_products_in_range}
 use Rattle.alg_values.specs.Functions.{is_named, named_of, whole_function, natural_ranged, integer_ranged, absolute_of, compared_ranged, is_at_most}
@@ -24,16 +24,10 @@ use Rattle.alg_values.specs.Values.{operated, over, with_value, value, values}
 use Rattle.alg_values.specs.declared.value.Value.{Value}
 use Rattle.alg_values.specs.declared.value.Value.TheVariants.{Num, Past, Without}
 use Rattle.alg_value_laws.specs.Fitting.{Fits, AllFit, IsRing, IsFieldOfZero}
+use Rattle.alg_value_laws.specs.Places.{sorts_over}
 use Rattle.alg_value_laws.proofs.Places.{sorts_are}
+use Rattle.alg_value_laws.proofs.Ranges.{where_num, num_is}
 use Rattle.alg_value_laws.proofs.Fractions.{natural_fits, integer_fits, field_fits, ring_fits, whole_fits, integral_fits, sum_fits, product_fits, power_fits}
-
--- a value that needs a class
-where_num : (b : Bool) (v : Value) (z : Fraction) → where_has b v ≡ Num z → (b ≡ true) × (v ≡ Num z)
-where_num true v z e = (refl, e)
-where_num false v z e = cc
-
-num_is : (p z : Fraction) → Num p ≡ Num z → p ≡ z
-num_is p z e = cc
 
 -- lists of a known length
 
@@ -300,3 +294,31 @@ value_fits ds covers t p w e = subst (FitsIn ds (sort_of_tree t)) e (fits_tree d
 
 pub values_fit : (ds : List Declaration) (covers : Sym → Bool) (ts : Trees) (ps : List Fraction) → AreWellSorted ds ts → values (setting ds covers) ts ≡ Some ps → AllFit ds (sorts_of ts) ps
 values_fit ds covers ts ps w e = subst (FitIf ds (sorts_of ts)) e (fit_trees ds covers ts w)
+
+-- an operation that has a value stands over the sorts of its places
+built_in : (ds : List Declaration) (has : Classes) (f : Sym) (s : Sort) (ts : List Sort) (ps : List Fraction) (z : Fraction) → arithmetic_of has f s ps ≡ Num z → symbol_mark ds f s ts ≡ built_in_mark ds f s ts
+built_in ds has Add s ts ps z e = refl
+built_in ds has Mul s ts ps z e = refl
+built_in ds has Neg s ts ps z e = refl
+built_in ds has Sub s ts ps z e = refl
+built_in ds has Inv s ts ps z e = refl
+built_in ds has Div s ts ps z e = refl
+built_in ds has Npow s ts ps z e = refl
+built_in ds has Zpow s ts ps z e = refl
+built_in ds has Nsmul s ts ps z e = refl
+built_in ds has Zsmul s ts ps z e = refl
+built_in ds has Abs s ts ps z e = refl
+built_in ds has Min s ts ps z e = refl
+built_in ds has Max s ts ps z e = refl
+built_in ds has NatSub s ts ps z e = refl
+built_in ds has IDiv s ts ps z e = refl
+built_in ds has Mod s ts ps z e = refl
+built_in ds has Gcd s ts ps z e = refl
+built_in ds has Lcm s ts ps z e = refl
+built_in ds has Fact s ts ps z e = refl
+built_in ds has Choose s ts ps z e = refl
+built_in ds has Fib s ts ps z e = refl
+built_in ds has (Apply i) s ts ps z e = cc
+
+pub arithmetic_sorts : (ds : List Declaration) (f : Sym) (s : Sort) (ts : List Sort) (ps : List Fraction) (z : Fraction) → head_mark ds f s ts ≡ Good → arithmetic_of (has_class ds) f s ps ≡ Num z → ts ≡ sorts_over f s
+arithmetic_sorts ds f s ts ps z h e = sorts_are ds f s ts (sym (built_in ds (has_class ds) f s ts ps z e) ∙ (worse-parts (sort_mark ds s) (symbol_mark ds f s ts) h).1)
