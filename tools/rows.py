@@ -1,17 +1,16 @@
 #!/usr/bin/env python3
-"""Writes the crate alg_rows: a function for each law and lemma that several procedures use.
+"""Writes the crates of rows: a function for each law and lemma that procedures use.
 
 What a row says is read from docs/LAWS.md, and where its constant stands from the code of alg_law and alg_lemma. The
-table below names the rows, by the file that their functions stand in; to add one, add its name there and run the
-script from anywhere. It writes the same bytes each time for the same table; run `rt fmt` in the crate afterwards.
+tables below name the rows, by the crate and the file that their functions stand in; to add one, add its name there and
+run the script from anywhere. It writes the same bytes each time for the same tables; run `rt fmt` in the crates afterwards.
 """
 import pathlib
 import re
 
 TOP = pathlib.Path(__file__).resolve().parent.parent
-CRATE = TOP / "crates" / "alg_rows"
 
-GROUPS = (
+SHARED = (
     ("sums", "Sums, differences and negations.", (
         "zero_add", "add_zero", "neg_neg", "neg_zero", "neg_add_neg_lit", "add_neg_pos", "add_neg_neg", "neg_add_pos",
         "neg_add_negr", "sub_eq_of_add", "sub_of_neg",
@@ -40,10 +39,45 @@ GROUPS = (
     )),
 )
 
+RING = (
+    ("nodes", "Sums of products by powers.", (
+        "add_tail", "add_tail_zero", "add_head", "add_head_zero", "add_mul_right", "add_mul_right_zero", "add_pair_left",
+        "add_pair_right", "add_pair_drop", "add_front", "add_front_drop", "add_nodes", "add_nodes_zero", "add_add_add_comm",
+    )),
+    ("splits", "Powers of one base.", (
+        "node_split", "node_join", "pow_mul_of", "pow_pow_of", "atom_node",
+    )),
+    ("factors", "Products with products by powers, and their powers.", (
+        "mul_swap", "mul_node", "mul_node_zero", "mul_same", "mul_same_zero", "mul_unit", "mul_unit_join", "left_distrib",
+        "distrib_back", "pow_node", "mul_comm", "div_eq_mul_inv0",
+    )),
+    ("negations", "Negations of products by powers.", (
+        "neg_sum", "neg_node", "neg_node_zero",
+    )),
+    ("monomials", "Products with monomials.", (
+        "leaf_mono", "node_mono", "node_mono_zero", "mono_first", "mono_next", "mono_one_more", "mono_again",
+    )),
+    ("terms", "Terms as they are written.", (
+        "first_one", "first_neg", "first_neg_one", "first_const", "next_coef", "next_one", "next_neg", "next_neg_one",
+        "next_const", "next_const_neg",
+    )),
+    ("combinations", "Equations from differences.", (
+        "eq_of_combo",
+    )),
+)
+
+# each crate, what its first line says, and its files
+CRATES = (
+    ("alg_rows", "The rows that procedures share, each as a function: its contract is what the row says, over trees.", SHARED),
+    ("alg_ring_rows", "The rows of polynomials, each as a function: its contract is what the row says, over trees.", RING),
+)
+
 # the rows whose names the search doesn't find, and those whose letters it doesn't fill
 NAMED_BY_HAND = (
     "add_neg_pos", "neg_add_pos", "sub_eq_of_add", "sub_of_neg", "neg_inv_lit", "div_add_same", "div_mul_swap",
     "div_mul_div", "mul_div_right", "mul_div_left", "mul_div_comm", "div_ne_zero", "neg_ne_pos", "pos_ne_neg", "ne_of_mul",
+    "add_head", "add_head_zero", "add_mul_right", "add_mul_right_zero", "add_nodes", "add_nodes_zero", "add_pair_left",
+    "add_tail_zero", "node_mono_zero",
 )
 FILLED_BY_HAND = ("sub_of_neg", "neg_inv_lit")
 FILLS = {2: "two_fill", 4: "four_fill"}
@@ -290,7 +324,7 @@ def file_text(group, about, names, rows, constants):
     return head + "\n".join(sorted(lines)) + "\n\n" + body
 
 
-def answers_text(group, name, row):
+def answers_text(crate, group, name, row):
     """The answers for a row that the search doesn't find or fill by itself."""
     classes, premises, conclusion, _ = row
     said = [Reader(text).statement() for text in premises + [conclusion]]
@@ -302,7 +336,7 @@ def answers_text(group, name, row):
     text += f"use Rattle.alg_lemma.proofs.Named.{{{name}-named}}\n"
     if filled:
         text += f"use Rattle.alg_build.proofs.RowFacts.{{{FILLS[len(letters)]}}}\n"
-    text += f"use Rattle.alg_rows.proofs.{group}.{name}.Goals as goal\n\n"
+    text += f"use Rattle.{crate}.proofs.{group}.{name}.Goals as goal\n\n"
     text += f"pub {call}-requires-clause-named : goal.{call}-requires-clause-named\n"
     text += f"{call}-requires-clause-named c = {name}-named _ c.requires.library\n"
     if filled:
@@ -314,33 +348,39 @@ def answers_text(group, name, row):
     return text
 
 
-def names_text(rows):
+def names_text(groups, rows):
     """The rulesets: for each file what its rows ask, and that they are found by their names."""
-    laws = [name for _, _, names in GROUPS for name in names if not rows[name][3]]
-    lemmas = [name for _, _, names in GROUPS for name in names if rows[name][3]]
+    laws = [name for _, _, names in groups for name in names if not rows[name][3]]
+    lemmas = [name for _, _, names in groups for name in names if rows[name][3]]
     text = "-- Rows found by their names, and what their lines ask.\n"
     text += f"use Rattle.alg_law.proofs.Named.{{{', '.join(f'{name}-named' for name in laws)}}}\n"
     text += f"use Rattle.alg_lemma.proofs.Named.{{{', '.join(f'{name}-named' for name in lemmas)}}}\n"
     text += "use Rattle.alg_build.proofs.RowFacts.{row_facts, proves-concludes}\n"
-    for group, _, names in GROUPS:
+    for group, _, names in groups:
         text += f"\npub ruleset {group} = (row_facts, proves-concludes, {', '.join(f'{name}-named' for name in names)})\n"
     return text
 
 
-def main():
-    rows, constants = read_page(), read_constants()
-    for group, about, names in GROUPS:
-        (CRATE / "src" / f"{group}.rt").write_text(file_text(group, about, names, rows, constants), encoding="utf-8")
+def write_crate(crate, about, groups, rows, constants):
+    folder = TOP / "crates" / crate
+    for group, said, names in groups:
+        (folder / "src" / f"{group}.rt").write_text(file_text(group, said, names, rows, constants), encoding="utf-8")
         for name in names:
             if name in NAMED_BY_HAND:
-                folder = CRATE / "proofs" / group / name
-                folder.mkdir(parents=True, exist_ok=True)
-                (folder / "Answers.antt").write_text(answers_text(group, name, rows[name]), encoding="utf-8")
-    lib = "//! The rows that procedures share, each as a function: its contract is what the row says, over trees.\n"
-    lib += "#![tactic(auto)]\n\n" + "".join(f"pub mod {group};\n" for group in sorted(group for group, _, _ in GROUPS))
-    (CRATE / "src" / "lib.rt").write_text(lib, encoding="utf-8")
-    (CRATE / "proofs" / "RowNames.antt").write_text(names_text(rows), encoding="utf-8")
-    (CRATE / "proofs" / "Lib.antt").write_text("pub mod RowNames\n", encoding="utf-8")
+                answers = folder / "proofs" / group / name
+                answers.mkdir(parents=True, exist_ok=True)
+                (answers / "Answers.antt").write_text(answers_text(crate, group, name, rows[name]), encoding="utf-8")
+    lib = f"//! {about}\n"
+    lib += "#![tactic(auto)]\n\n" + "".join(f"pub mod {group};\n" for group in sorted(group for group, _, _ in groups))
+    (folder / "src" / "lib.rt").write_text(lib, encoding="utf-8")
+    (folder / "proofs" / "RowNames.antt").write_text(names_text(groups, rows), encoding="utf-8")
+    (folder / "proofs" / "Lib.antt").write_text("pub mod RowNames\n", encoding="utf-8")
+
+
+def main():
+    rows, constants = read_page(), read_constants()
+    for crate, about, groups in CRATES:
+        write_crate(crate, about, groups, rows, constants)
 
 
 main()

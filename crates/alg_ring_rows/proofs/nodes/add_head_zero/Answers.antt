@@ -1,0 +1,5 @@
+use Rattle.alg_lemma.proofs.Named.{add_head_zero-named}
+use Rattle.alg_ring_rows.proofs.nodes.add_head_zero.Goals as goal
+
+pub by_lemma-requires-clause-named : goal.by_lemma-requires-clause-named
+by_lemma-requires-clause-named c = add_head_zero-named _ c.requires.library

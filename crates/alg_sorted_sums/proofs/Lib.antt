@@ -1,0 +1,3 @@
+pub mod RowNames
+pub mod Growing
+pub mod Summing
