@@ -19,7 +19,7 @@ use std::alloc::Global;
 use std::process::ExitCode;
 use words::{print, run_words};
 
-const RUNS: [&'static str; 22] = [
+const RUNS: [&'static str; 25] = [
     "algebra prove notation.alg --cert written.cert",
     "algebra check notation.alg written.cert",
     "algebra check notation.alg notation.cert",
@@ -38,7 +38,10 @@ const RUNS: [&'static str; 22] = [
     "algebra prove missing.alg",
     "algebra prove first.alg --cert no/such/file",
     "algebra check first.alg missing.cert",
-    "algebra demo 1",
+    "algebra demo 0",
+    "algebra demo 6",
+    "algebra demo 10001",
+    "algebra prove first.alg --without=",
     "algebra prove norm_num.alg",
     "algebra prove tactics.alg",
     "algebra prove reading.alg",

@@ -8,7 +8,11 @@ pub fn run_words<H: Host>(alloc: Global, line: &str, host: &mut H) -> Result<u8,
     for word in line.split(' ') {
         words.push(String::from_str(alloc, word)?)?;
     }
-    Ok(run(alloc, &words, host, &Extensions {}).code())
+    let exts = Extensions {
+        num: Vec::new(alloc),
+        sign: Vec::new(alloc),
+    };
+    Ok(run(alloc, &words, host, &exts).code())
 }
 
 /// Prints bytes, where it can.

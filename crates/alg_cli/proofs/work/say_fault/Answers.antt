@@ -1,6 +1,0 @@
-use Rattle.std.proofs.Common.{refl}
-use Rattle.alg_cli.proofs.Reaching.{did_none}
-use Rattle.alg_cli.proofs.work.say_fault.Goals as goal
-
-pub returns-in-Err-clause-told : goal.returns-in-Err-clause-told
-returns-in-Err-clause-told g c = did_none _ _ _ _ refl refl
