@@ -14,7 +14,7 @@ TOP = pathlib.Path(__file__).resolve().parent.parent
 PAGE = TOP / "docs" / "TRUST.md"
 
 # the functions, with the crate that has them
-FUNCTIONS = (("alg_kernel", "accept"), ("alg_cli", "run"), ("alg_cli", "check"))
+FUNCTIONS = (("alg_kernel", "accept"), ("alg_cli", "run"), ("alg_run", "check"))
 
 # the parts: title, what is said of it, and its roots (function, clause); the empty clause stands for all of them
 PARTS = (
@@ -422,7 +422,7 @@ def page():
         print(f"trust.py: {here} uses {name} of {path}, which isn't followed", file=sys.stderr)
     out += [
         "Where to begin: read the first part, and of the third what a report says "
-        f"([alg_cli/specs/Report.antt](../crates/alg_cli/specs/Report.antt)). The clauses themselves stand in "
+        f"([alg_report/specs/Report.antt](../crates/alg_report/specs/Report.antt)). The clauses themselves stand in "
         + ", ".join(
             f"`{function}` in [{contracts[function][0].relative_to(TOP / 'crates').as_posix()}]"
             f"(../crates/{contracts[function][0].relative_to(TOP / 'crates').as_posix()})"
