@@ -1,0 +1,4 @@
+pub mod ShapeLemmas
+pub mod AtomLemmas
+pub mod ReachLemmas
+pub mod FoundLemmas

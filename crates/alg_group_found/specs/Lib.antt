@@ -1,0 +1,4 @@
+pub mod Exponents
+pub mod Atoms
+pub mod Found
+pub mod Shapes
