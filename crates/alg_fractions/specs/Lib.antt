@@ -1,0 +1,2 @@
+pub mod NumeralTree
+pub mod Fractions

@@ -1,0 +1,4 @@
+use Rattle.alg_powers.proofs.powers.+power_from.Given as goal
+
+abbrev pub decreases-power_from : goal.decreases-power_from
+decreases-power_from l = l.n
