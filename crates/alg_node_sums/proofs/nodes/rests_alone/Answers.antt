@@ -1,4 +1,4 @@
-use Rattle.alg_node_sums.proofs.Deriving.{grows-derives, moved-line, stays}
+use Rattle.alg_node_sums.proofs.Deriving.{grows-derives, moved, moved-line, stays}
 use Rattle.alg_sorted_sums.proofs.Growing.{holds}
 use Rattle.alg_node_sums.proofs.nodes.rests_alone.Goals as goal
 
