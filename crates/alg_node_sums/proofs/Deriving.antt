@@ -1,21 +1,20 @@
 -- What is derived as the book grows, and what calls ask for.
-use Rattle.std.proofs.Common.{◌≡◌, ℕ, Some, refl, ap, ap₂, sym, subst, ◌∙◌}
+use Rattle.std.proofs.Common.{◌≡◌, ℕ, Some, ap₂, sym, subst, ◌∙◌}
 use Rattle.alg_terms.specs.declared.sorts.Sort.{Sort}
-use Rattle.alg_terms.specs.Tree.{Tree, sum_tree, product_tree, sort_of_tree}
+use Rattle.alg_terms.specs.Tree.{Tree, sum_tree}
 use Rattle.alg_expr.specs.declared.ids.ExprId.{ExprId}
 use Rattle.alg_expr.specs.Ids.{tree_of}
 use Rattle.alg_proof.specs.Steps.{Theory}
 use Rattle.alg_build.specs.Book.{Book, Grows, Proves}
 use Rattle.alg_build.specs.declared.rewriting.Rewriting.{Rewriting}
-use Rattle.alg_build.specs.Rewriting.{Turns, TurnsIn, Stands}
+use Rattle.alg_build.specs.Rewriting.{Turns, Stands}
 use Rattle.alg_build.proofs.Lines.{grows-proves}
 use Rattle.alg_build.proofs.Rewritings.{rewritings, grows-stands, grows-turns}
 use Rattle.alg_sorted_sums.specs.Sums.{CanSum}
 use Rattle.alg_sorted_sums.proofs.Growing.{grows-holds, same}
 use Rattle.alg_node_sums.specs.declared.lines.Derived.{Derived}
-use Rattle.alg_node_sums.specs.declared.lines.Pair.{Pair}
 use Rattle.alg_node_sums.specs.Polynomials.{HasPolynomials, HasNegations}
-use Rattle.alg_node_sums.specs.Deriving.{Derives, ArePair}
+use Rattle.alg_node_sums.specs.Deriving.{Derives}
 use Rattle.alg_node_sums.specs.Combining.{LeadsToSum}
 
 pub can_sum : (t : Theory) (s : Sort) → HasPolynomials t s → CanSum t s
