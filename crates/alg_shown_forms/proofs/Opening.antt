@@ -1,11 +1,13 @@
 -- The parts of sums and products that are well sorted, and of the trees of forms.
-use Rattle.std.proofs.Common.{◌≡◌, ℕ, ◌+◌, List, refl, ap, subst, ◌∙◌, ◌⊎◌, inl, inr}
+use Rattle.std.proofs.Common.{◌≡◌, ◌≢◌, ℕ, ◌+◌, ◌<◌, List, [], ◌∷◌, length, refl, ap, subst, ◌∙◌, ◌⊎◌, inl, inr, Some, None, arith}
+use Rattle.std.specs.Prelude.{Option, IfSome, IsNone, All}
+use Rattle.std.proofs.lemmas.List.Elements.{All-head, All-tail}
 use Rattle.alg_terms.specs.declared.sorts.Sort.{Sort}
 use Rattle.alg_terms.specs.declared.symbols.Sym.{Sym}
 use Rattle.alg_terms.specs.declared.symbols.Sym.TheVariants.{Add, Mul}
-use Rattle.alg_terms.specs.Tree.{Tree, App, Cons, Nil, product_tree}
+use Rattle.alg_terms.specs.Tree.{Tree, App, Cons, Nil, of_list, product_tree}
 use Rattle.alg_expr.specs.declared.ids.ExprId.{ExprId}
-use Rattle.alg_expr.specs.Ids.{tree_of, IsIn}
+use Rattle.alg_expr.specs.Ids.{tree_of, trees_at, IsIn}
 use Rattle.alg_law.specs.Declarations.{Declaration}
 use Rattle.alg_law.specs.WellSorted.{IsWellSorted}
 use Rattle.alg_build.specs.Book.{Book}
@@ -16,7 +18,7 @@ use Rattle.alg_sums.specs.Rational.{rational}
 use Rattle.alg_horner.specs.Form.{Form, skip, sum}
 use Rattle.alg_form_trees.specs.FormTree.{form_tree, raised}
 use Rattle.alg_form_trees.proofs.FormTrees.{skip_is, sum_is}
-use Rattle.alg_shown_forms.specs.Parts.{IsOver, IsOverTwo}
+use Rattle.alg_shown_forms.specs.Parts.{IsOver, IsOverTwo, AreArguments}
 
 sum_parts : (ds : List Declaration) (s : Sort) (x y : Tree) → IsWellSorted ds (App Add s (Cons x (Cons y Nil))) → HasTwoParts ds Add s x y
 sum_parts ds s x y h = two_parts ds Add s x y refl h
@@ -28,17 +30,37 @@ parts : (ds : List Declaration) (f : Sym) (s : Sort) (x y : Tree) → (f ≡ Add
 parts ds f s x y (inl e) h = rw e (sum_parts ds s x y (rw e at h))
 parts ds f s x y (inr e) h = rw e (product_parts ds s x y (rw e at h))
 
--- what ids stand for, where the tree of e is an operation over theirs
-module _ (b : Book) (s : Sort) (e p q : ExprId) (f : Sym) (x y : Tree) (h : IsOver b s e f x y) where
-  pub first_part : IsIn b.trees p → tree_of b.trees p ≡ x → Stands b s p x
-  first_part i k =
+-- what an id stands for, where the tree of e is an operation over its tree and another
+module _ (b : Book) (s : Sort) (e p : ExprId) (f : Sym) (x y : Tree) (h : IsOver b s e f x y) (i : IsIn b.trees p) where
+  pub first_part : tree_of b.trees p ≡ x → Stands b s p x
+  first_part k =
       let c = parts b.theory.declarations f s x y h.operation h.stands.sorted in
       record { here = i; tree = k; sorted = c.left_good; sort = c.left }
 
-  pub second_part : IsIn b.trees q → tree_of b.trees q ≡ y → Stands b s q y
-  second_part i k =
+  pub second_part : tree_of b.trees p ≡ y → Stands b s p y
+  second_part k =
       let c = parts b.theory.declarations f s x y h.operation h.stands.sorted in
       record { here = i; tree = k; sorted = c.right_good; sort = c.right }
+
+-- a symbol over another number of parts is none over two
+not_two : (trees : List Tree) (u x y : Tree) (f g : Sym) (s r : Sort) (args : List ExprId) → u ≡ App f s (of_list (trees_at trees args)) → length args ≢ 2 → u ≡ App g r (Cons x (Cons y Nil)) → ⊥
+not_two trees u x y f g s r [] e h i = cc
+not_two trees u x y f g s r (a ∷ []) e h i = cc
+not_two trees u x y f g s r (a ∷ b ∷ []) e h i = h refl
+not_two trees u x y f g s r (a ∷ b ∷ c ∷ args) e h i = cc
+
+same_two : (u v w x y : Tree) (f g : Sym) (s r : Sort) → u ≡ App f s (Cons v (Cons w Nil)) → u ≡ App g r (Cons x (Cons y Nil)) → (v ≡ x) × (w ≡ y)
+same_two u v w x y f g s r e h = (cc, cc)
+
+pub are_arguments : (b : Book) (e : ExprId) (f : Sym) (s : Sort) (args : List ExprId) (o : Option (ExprId × ExprId)) → IsIn b.trees e → tree_of b.trees e ≡ App f s (of_list (trees_at b.trees args)) → All (λ a. a.index < e.index) args → IfSome o (λ p. args ≡ p.0 ∷ p.1 ∷ []) → (IsNone o → length args ≢ 2) → AreArguments b e o
+are_arguments b e f s args None i h k m n = λ g r x y q. not_two b.trees (tree_of b.trees e) x y f g s r args h (n refl) q
+are_arguments b e f s args (Some p) i h k m n =
+    let P : ExprId → Type 0 = λ a. a.index < e.index in
+    let a : All P (p.0 ∷ p.1 ∷ []) = subst (All P) m k in
+    let t : tree_of b.trees e ≡ App f s (Cons (tree_of b.trees p.0) (Cons (tree_of b.trees p.1) Nil)) = h ∙ ap (λ es. App f s (of_list (trees_at b.trees es))) m in
+    let l : p.0.index < e.index = All-head P p.0 (p.1 ∷ []) a in
+    let j : p.1.index < e.index = All-head P p.1 [] (All-tail P p.0 (p.1 ∷ []) a) in
+    (omega (arith, l, i), omega (arith, j, i), λ g r x y q. same_two (tree_of b.trees e) (tree_of b.trees p.0) (tree_of b.trees p.1) x y f g s r t q)
 
 pub is_over_two : (b : Book) (s : Sort) (e : ExprId) (f : Sym) (x y : Tree) → IsOver b s e f x y → IsOverTwo b e
 is_over_two b s e f x y h = record { sort = s; symbol = f; left = x; right = y; over = h }

@@ -1,10 +1,8 @@
 -- Forms with the ids of their trees. The trees of the atoms are bound: for some in what is asked, for all in what is said.
 use Rattle.std.specs.Prelude.{◌≡◌, ℕ, ◌+◌, List}
 use Rattle.alg_terms.specs.declared.sorts.Sort.{Sort}
-use Rattle.alg_terms.specs.declared.sorts.Sort.TheVariants.{Nat}
 use Rattle.alg_terms.specs.Tree.{Tree, sum_tree, product_tree}
 use Rattle.alg_expr.specs.declared.ids.ExprId.{ExprId}
-use Rattle.alg_expr.specs.Ids.{tree_of}
 use Rattle.alg_sums.specs.Ratio.{Ratio}
 use Rattle.alg_horner.specs.Form.{Form, constant, skip, sum}
 use Rattle.alg_horner.specs.FractionMeaning.{ratio_at}

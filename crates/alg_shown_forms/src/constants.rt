@@ -36,6 +36,8 @@ pub trait Constants {
         ensures one { (s : SortKind) → leaf s rational.one ≡ Lit s 1 }
         ensures sorts { (s : SortKind) → (c : Ratio) → sort_of_tree (leaf s c) ≡ s }
         ensures sums { (t : Theory) → (s : SortKind) → IsSubadditive rational (lacks t s) }
+        ensures unit { (t : Theory) → (s : SortKind) → lacks t s rational.one ≡ 0 }
+        ensures negatives { (t : Theory) → (s : SortKind) → HasNegations t s → (c : Ratio) → lacks t s c ≡ 0 → lacks t s (rational.minus c) ≡ 0 }
         ensures products { (t : Theory) → (s : SortKind) → (c d : Ratio) → lacks t s c ≡ 0 → lacks t s d ≡ 0 → lacks t s (rational.times c d) ≡ 0 };
 
     /// The numeral.

@@ -1,5 +1,5 @@
 //! Forms with the ids of their trees, and how they are taken apart.
-ghost use Rattle.std.specs.Prelude.{ℕ, List};
+ghost use Rattle.std.specs.Prelude.{◌≡◌, ◌≢◌, ℕ, List, [], ◌∷◌, length, IfSome, IsNone};
 ghost use Rattle.alg_terms.specs.declared.sorts.Sort.{Sort as SortKind};
 ghost use Rattle.alg_terms.specs.declared.symbols.Sym.{Sym as Symbol};
 ghost use Rattle.alg_terms.specs.Tree.{Tree};
@@ -51,16 +51,24 @@ pub enum Opened {
     },
 }
 
+// the two of a list of two
+fn pair(args: &[ExprId]) -> Option<(ExprId, ExprId)>
+    ensures some { IfSome result (λ p. args.now ≡ p.0 ∷ p.1 ∷ []) }
+    ensures none { IsNone result → length args.now ≢ 2 }
+{
+    match args {
+        [a, b] => Some((*a, *b)),
+        _ => None,
+    }
+}
+
 // the two arguments, where there are two
 fn arguments(cx: &Builder, tree: ExprId) -> Option<(ExprId, ExprId)>
     requires { IsIn cx.now.trees tree }
     ensures { AreArguments cx.now tree result }
 {
     match cx.arena().view(tree) {
-        View::App { args, .. } => match args {
-            [a, b] => Some((*a, *b)),
-            _ => None,
-        },
+        View::App { args, .. } => pair(args),
         _ => None,
     }
 }
