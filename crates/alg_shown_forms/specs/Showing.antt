@@ -23,13 +23,6 @@ pub record IsOneShown (leaf : Ratio → Tree) (b : Book) (s : Sort) (f : Shown) 
   pub number : ℕ
   pub shown : IsShown leaf b s names number f
 
--- two forms over the same atoms
-pub record AreShown (leaf : Ratio → Tree) (b : Book) (s : Sort) (f g : Shown) : Type 0 where
-  pub names : List Tree
-  pub number : ℕ
-  pub first : IsShown leaf b s names number f
-  pub second : IsShown leaf b s names number g
-
 -- f is p * x ^ i + q, and the ids stand for p, x ^ i, their product and q
 pub record IsOpenSum (leaf : Ratio → Tree) (b : Book) (s : Sort) (names : List Tree) (k : ℕ) (f : Form Ratio) (p : Shown) (x product : ExprId) (i : ℕ) (q : Shown) : Type 0 where
   pub form : f ≡ sum p.form i q.form
@@ -47,13 +40,3 @@ IsOpened leaf b s names k f (opened.Sum p x product i q) = IsOpenSum leaf b s na
 pub record IsSumLine (leaf : Ratio → Tree) (b : Book) (s : Sort) (names : List Tree) (k : ℕ) (f g : Form Ratio) (r : Told) : Type 0 where
   pub shown : IsShown leaf b s names k r.shown
   pub line : Proves b r.line (sum_tree s (form_tree leaf s names k f) (form_tree leaf s names k g)) (form_tree leaf s names k r.shown.form)
-
--- the line concludes f * g = h
-pub record IsProductLine (leaf : Ratio → Tree) (b : Book) (s : Sort) (names : List Tree) (k : ℕ) (f g : Form Ratio) (r : Told) : Type 0 where
-  pub shown : IsShown leaf b s names k r.shown
-  pub line : Proves b r.line (product_tree s (form_tree leaf s names k f) (form_tree leaf s names k g)) (form_tree leaf s names k r.shown.form)
-
--- the line concludes that this tree equals h
-pub record IsLine (leaf : Ratio → Tree) (b : Book) (s : Sort) (names : List Tree) (k : ℕ) (t : Tree) (r : Told) : Type 0 where
-  pub shown : IsShown leaf b s names k r.shown
-  pub line : Proves b r.line t (form_tree leaf s names k r.shown.form)
