@@ -1,16 +1,16 @@
 -- The cases of a sum: what is asked of the trees alone, and what is said of the forms.
-use Rattle.std.proofs.Common.{◌≡◌, ℕ, ◌+◌, List, refl, sym}
+use Rattle.std.proofs.Common.{◌≡◌, ℕ, List, refl}
 use Rattle.alg_terms.specs.declared.sorts.Sort.{Sort}
-use Rattle.alg_terms.specs.Tree.{Tree, sum_tree, product_tree, sort_of_tree}
+use Rattle.alg_terms.specs.Tree.{Tree, sum_tree, product_tree}
 use Rattle.alg_expr.specs.declared.ids.ExprId.{ExprId}
 use Rattle.alg_expr.specs.Ids.{tree_of}
 use Rattle.alg_sums.specs.Ratio.{Ratio}
 use Rattle.alg_sums.specs.Rational.{rational}
-use Rattle.alg_horner.specs.Form.{Form, sum}
+use Rattle.alg_horner.specs.Form.{Form, constant, sum}
 use Rattle.alg_build.specs.Book.{Book}
 use Rattle.alg_build.specs.Rewriting.{Stands}
 use Rattle.alg_form_trees.specs.FormTree.{form_tree}
-use Rattle.alg_form_trees.proofs.FormTrees.{sum_is}
+use Rattle.alg_form_trees.proofs.FormTrees.{constant_is, sum_is}
 use Rattle.alg_node_sums.specs.declared.lines.Derived.{Derived}
 use Rattle.alg_node_sums.specs.declared.lines.Pair.{Pair}
 use Rattle.alg_node_sums.specs.Deriving.{Derives, ArePair}
@@ -70,3 +70,12 @@ module _ (leaf : Ratio → Tree) (a b : Book) (s : Sort) (names : List Tree) (k 
         shown = rw (f, x, z) (rw (h.inner_line.shown.tree, h.power.tree, h.later_line.shown.tree) at d.stands);
         line = rw (f, y, z, w, v) (rw (h.inner_line.shown.tree, h.power.tree, h.later_line.shown.tree, h.left.tree, h.right.tree, h.rest_stands.tree, h.tail_stands.tree) at d.line);
       }
+
+module _ (leaf : Ratio → Tree) (b : Book) (s : Sort) (names : List Tree) (k : ℕ) where
+  pub constants_done : (x y : Ratio) (r : Told) (made : Derived) → Derives b s made (sum_tree s (leaf x) (leaf y)) (leaf (rational.plus x y))
+      → r.shown.form ≡ constant (rational.plus x y) → r.shown.tree ≡ made.tree → r.line ≡ made.line → IsSumLine leaf b s names k (constant x) (constant y) r
+  constants_done x y r made d f u v =
+      let z = constant_is rational leaf s names k (rational.plus x y) in
+      let w = constant_is rational leaf s names k x in
+      let o = constant_is rational leaf s names k y in
+      record { shown = rw (f, u, z) d.stands; line = rw (f, v, z, w, o) d.line }

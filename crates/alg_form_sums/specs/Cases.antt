@@ -1,11 +1,10 @@
 -- The cases of a sum of two forms: what the ids of their parts stand for, and what is said of the sum.
-use Rattle.std.specs.Prelude.{◌≡◌, ℕ, ◌+◌, ◌<◌, ◌≤◌, ◌^◌, List}
+use Rattle.std.specs.Prelude.{ℕ, ◌+◌, List}
 use Rattle.alg_terms.specs.declared.sorts.Sort.{Sort}
 use Rattle.alg_terms.specs.Tree.{Tree, sum_tree, product_tree}
 use Rattle.alg_expr.specs.declared.ids.ExprId.{ExprId}
 use Rattle.alg_sums.specs.Ratio.{Ratio}
-use Rattle.alg_sums.specs.Rational.{rational}
-use Rattle.alg_horner.specs.Form.{Form, constant, sum, IsSound, atoms, exponent}
+use Rattle.alg_horner.specs.Form.{Form, sum}
 use Rattle.alg_build.specs.Book.{Book, Proves}
 use Rattle.alg_build.specs.Rewriting.{Stands}
 use Rattle.alg_form_trees.specs.FormTree.{form_tree, raised}
@@ -57,11 +56,3 @@ pub record AreNodesSome (leaf : Ratio → Tree) (b : Book) (s : Sort) (i : ℕ) 
   pub q : Form Ratio
   pub t : Form Ratio
   pub nodes : AreNodes leaf b s names number p o i q t pair rest tail inner later
-
--- the parts may be joined to a node
-pub record CanJoin (p : Form Ratio) (i : ℕ) (v : Form Ratio) : Type 0 where
-  pub power : 0 < i
-  pub first : IsSound rational p
-  pub second : IsSound rational v
-  pub exponent : exponent 0 p + i < 2 ^ 32
-  pub atoms : atoms v + 1 ≤ 2 ^ 32

@@ -1,16 +1,15 @@
 //! The cases of a sum of two forms.
 ghost use Rattle.std.specs.Prelude.{◌≡◌, ℕ, List, IfOk};
 ghost use Rattle.alg_terms.specs.Tree.{Tree};
-ghost use Rattle.alg_proof.specs.Steps.{Theory};
 ghost use Rattle.alg_sums.specs.Ratio.{Ratio};
 ghost use Rattle.alg_sums.specs.Rational.{rational};
 ghost use Rattle.alg_horner.specs.FractionMeaning.{ratio_at};
-ghost use Rattle.alg_horner.specs.Facts.{CanAdd, IsNormalOf};
+ghost use Rattle.alg_horner.specs.Facts.{CanAdd};
 ghost use Rattle.alg_horner.specs.Form.{Form, constant, sum, IsSound};
 ghost use Rattle.alg_build.specs.Book.{Grows};
 ghost use Rattle.alg_node_sums.specs.Polynomials.{HasPolynomials};
 ghost use Rattle.alg_shown_forms.specs.Showing.{IsSumLine};
-ghost use Rattle.alg_form_sums.specs.Cases.{AreNodes, AreNodesSome, CanJoin, IsAheadSum, IsBeside, IsBesideSome, IsBesideSum};
+ghost use Rattle.alg_form_sums.specs.Cases.{AreNodes, AreNodesSome, IsAheadSum, IsBeside, IsBesideSome, IsBesideSum};
 
 use alg_build::{Builder, Memory};
 use alg_expr::{ExprId, Sort};
@@ -38,7 +37,7 @@ pub fn constants_sum<N: Constants>(
     ensures grows { Grows cx.old cx.new }
 {
     let made = N::sum(cx, sort, first.value, second.value)?;
-    let form = Horner::constant(cx.alloc(), first.value.add(&second.value))?;
+    let form = Horner::constant(cx.alloc(), Coeff::add(&first.value, &second.value))?;
     let shown = Shown {
         form,
         tree: made.tree,
