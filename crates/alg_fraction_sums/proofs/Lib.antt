@@ -1,0 +1,4 @@
+pub mod RowNames
+pub mod QuotientLemmas
+pub mod WholeLemmas
+pub mod ComparisonLemmas

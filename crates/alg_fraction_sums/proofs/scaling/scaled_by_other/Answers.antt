@@ -1,0 +1,19 @@
+use Rattle.alg_build.proofs.Lines.{grows-then}
+use Rattle.alg_build.proofs.Rewritings.{follows, grows-turns}
+use Rattle.alg_fraction_sums.proofs.scaling.scaled_by_other.Goals as goal
+
+pub then-requires : goal.then-requires
+then-requires c =
+    let first = rw c.den.ensures.number at (grows-turns _ _ c.scaled_by_own.ensures.grows _ _ _ _ c.in_ok-swapped.ensures.turns) in
+    follows _ _ _ _ _ _ _ first c.in_ok-total.ensures.turns
+
+pub returns-clause-turns : goal.returns-clause-turns
+returns-clause-turns c =
+    let first = rw c.den.ensures.number at (grows-turns _ _ c.scaled_by_own.ensures.grows _ _ _ _ c.in_ok-swapped.ensures.turns) in
+    c.in_ok-r.ensures.turns _ _ _ _ first c.in_ok-total.ensures.turns
+
+pub returns-in_err-r-clause-grows : goal.returns-in_err-r-clause-grows
+returns-in_err-r-clause-grows c = grows-then _ _ _ c.factors_swapped.ensures.grows (grows-then _ _ _ c.scaled_by_own.ensures.grows c.then.ensures.grows)
+
+pub returns-clause-grows : goal.returns-clause-grows
+returns-clause-grows c = grows-then _ _ _ c.factors_swapped.ensures.grows (grows-then _ _ _ c.scaled_by_own.ensures.grows c.then.ensures.grows)
