@@ -1,13 +1,13 @@
 -- The cases of a sum: what is asked of the trees alone, and what is said of the forms.
-use Rattle.std.proofs.Common.{◌≡◌, ℕ, List, refl}
+use Rattle.std.proofs.Common.{◌≡◌, ℕ, ◌+◌, List, refl, ap, ◌∙◌}
 use Rattle.alg_terms.specs.declared.sorts.Sort.{Sort}
-use Rattle.alg_terms.specs.Tree.{Tree, sum_tree, product_tree}
+use Rattle.alg_terms.specs.Tree.{Tree, Lit, sum_tree, product_tree}
 use Rattle.alg_expr.specs.declared.ids.ExprId.{ExprId}
 use Rattle.alg_expr.specs.Ids.{tree_of}
 use Rattle.alg_sums.specs.Ratio.{Ratio}
 use Rattle.alg_sums.specs.Rational.{rational}
 use Rattle.alg_horner.specs.Form.{Form, constant, sum}
-use Rattle.alg_build.specs.Book.{Book}
+use Rattle.alg_build.specs.Book.{Book, Proves}
 use Rattle.alg_build.specs.Rewriting.{Stands}
 use Rattle.alg_form_trees.specs.FormTree.{form_tree}
 use Rattle.alg_form_trees.proofs.FormTrees.{constant_is, sum_is}
@@ -35,6 +35,13 @@ module _ (leaf : Ratio → Tree) (b : Book) (s : Sort) (names : List Tree) (k : 
     left = rw (h.first.tree, h.power.tree) h.left;
     right = rw (h.second.tree, h.power.tree) h.right;
   }
+
+  -- the line that the inner forms of two nodes have the sum 0
+  pub none_line : (p o : Form Ratio) (i : ℕ) (q t : Form Ratio) (pair : Pair) (rest other : ExprId) (inner later : Told) → AreNodes leaf b s names k p o i q t pair rest other inner later
+      → inner.shown.form ≡ constant rational.nil → leaf rational.nil ≡ Lit s 0 → Proves b inner.line (sum_tree s (tree_of b.trees pair.first) (tree_of b.trees pair.second)) (Lit s 0)
+  none_line p o i q t pair rest other inner later h e z =
+      let w : form_tree leaf s names k inner.shown.form ≡ Lit s 0 = ap (form_tree leaf s names k) e ∙ constant_is rational leaf s names k rational.nil ∙ z in
+      rw (h.first.tree, h.second.tree) (rw w at h.inner_line.line)
 
 module _ (leaf : Ratio → Tree) (a b : Book) (s : Sort) (names : List Tree) (k : ℕ) where
   pub beside_done : (p : Form Ratio) (i : ℕ) (q t : Form Ratio) (product rest other : ExprId) (later r : Told) (made : Derived) → IsBeside leaf a s names k p i q t product rest other later
@@ -69,6 +76,17 @@ module _ (leaf : Ratio → Tree) (a b : Book) (s : Sort) (names : List Tree) (k 
       record {
         shown = rw (f, x, z) (rw (h.inner_line.shown.tree, h.power.tree, h.later_line.shown.tree) at d.stands);
         line = rw (f, y, z, w, v) (rw (h.inner_line.shown.tree, h.power.tree, h.later_line.shown.tree, h.left.tree, h.right.tree, h.rest_stands.tree, h.tail_stands.tree) at d.line);
+      }
+
+  pub rests_done : (p o : Form Ratio) (i : ℕ) (q t : Form Ratio) (pair : Pair) (rest other : ExprId) (inner later r : Told) (made : Derived) → AreNodes leaf a s names k p o i q t pair rest other inner later
+      → Derives b s made (sum_tree s (sum_tree s (tree_of a.trees pair.left) (tree_of a.trees rest)) (sum_tree s (tree_of a.trees pair.right) (tree_of a.trees other))) (tree_of a.trees later.shown.tree)
+      → form_tree leaf s names k r.shown.form ≡ form_tree leaf s names (k + 1) later.shown.form → r.shown.tree ≡ made.tree → r.line ≡ made.line → IsSumLine leaf b s names k (sum p i q) (sum o i t) r
+  rests_done p o i q t pair rest other inner later r made h d f x y =
+      let w = sum_is rational leaf s names k p i q in
+      let v = sum_is rational leaf s names k o i t in
+      record {
+        shown = rw (f, x) (rw h.later_line.shown.tree at d.stands);
+        line = rw (f, y, w, v) (rw (h.later_line.shown.tree, h.left.tree, h.right.tree, h.rest_stands.tree, h.tail_stands.tree) at d.line);
       }
 
 module _ (leaf : Ratio → Tree) (b : Book) (s : Sort) (names : List Tree) (k : ℕ) where

@@ -1,11 +1,11 @@
 //! The cases of a sum of two forms.
-ghost use Rattle.std.specs.Prelude.{◌≡◌, ℕ, List, IfOk};
+ghost use Rattle.std.specs.Prelude.{◌≡◌, ℕ, ◌+◌, ◌≤◌, ◌^◌, List, IfOk};
 ghost use Rattle.alg_terms.specs.Tree.{Tree};
 ghost use Rattle.alg_sums.specs.Ratio.{Ratio};
 ghost use Rattle.alg_sums.specs.Rational.{rational};
 ghost use Rattle.alg_horner.specs.FractionMeaning.{ratio_at};
-ghost use Rattle.alg_horner.specs.Facts.{CanAdd};
-ghost use Rattle.alg_horner.specs.Form.{Form, constant, sum, IsSound};
+ghost use Rattle.alg_horner.specs.Facts.{CanAdd, IsNormalOf};
+ghost use Rattle.alg_horner.specs.Form.{Form, constant, skip, sum, atoms, IsSound};
 ghost use Rattle.alg_build.specs.Book.{Grows};
 ghost use Rattle.alg_node_sums.specs.Polynomials.{HasPolynomials};
 ghost use Rattle.alg_shown_forms.specs.Showing.{IsSumLine};
@@ -15,7 +15,7 @@ use alg_build::{Builder, Memory};
 use alg_expr::{ExprId, Sort};
 use alg_horner::{Coeff, Horner};
 use alg_node_sums::beside::{head, tail};
-use alg_node_sums::nodes::both;
+use alg_node_sums::nodes::{both, rests_alone};
 use alg_node_sums::{Derived, Pair};
 use alg_num::Frac;
 use alg_shown_forms::{Constants, Number, Shown, Told};
@@ -147,6 +147,45 @@ pub fn nodes_sum<N: Constants>(
     };
     let made = both(cx, sort, pair, rest, other, above, known)?;
     let form = Horner::sum(cx.alloc(), inner.shown.form, power, later.shown.form)?;
+    let shown = Shown {
+        form,
+        tree: made.tree,
+    };
+    Ok(Told {
+        shown,
+        line: made.line,
+    })
+}
+
+/// Two nodes of one power whose inner forms have the sum 0: the sum of the rests is left, over the atoms after the first.
+#[tactic(auto, using(alg_node_sums::proofs::Deriving::derived_facts))]
+pub fn rests_sum<N: Constants>(
+    cx: &mut Builder,
+    sort: Sort,
+    power: u128,
+    pair: Pair,
+    rest: ExprId,
+    other: ExprId,
+    inner: Told,
+    later: Told,
+) -> Result<Told, Memory>
+    requires ready { HasPolynomials cx.old.theory sort }
+    requires parts { AreNodesSome (N.leaf sort) cx.old sort power pair rest other inner later }
+    requires none { inner.shown.form ≡ constant rational.nil }
+    requires atoms { atoms later.shown.form + 1 ≤ 2 ^ 32 }
+    ensures form { IfOk result (λ r. IsNormalOf rational (skip 1 later.shown.form) r.shown.form) }
+    ensures line { IfOk result (λ r. (names : List Tree) → (k : ℕ) → (p o q t : Form Ratio) → AreNodes (N.leaf sort) cx.old sort names k p o power q t pair rest other inner later → IsSumLine (N.leaf sort) cx.new sort names k (sum p power q) (sum o power t) r) }
+    ensures grows { Grows cx.old cx.new }
+{
+    N::told();
+    later.shown.form.told();
+    let known = Derived {
+        tree: later.shown.tree,
+        line: later.line,
+    };
+    let made = rests_alone(cx, sort, pair, rest, other, inner.line, known)?;
+    let form = Horner::skip(cx.alloc(), 1, later.shown.form)?;
+    form.told();
     let shown = Shown {
         form,
         tree: made.tree,
