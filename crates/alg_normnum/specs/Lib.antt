@@ -1,2 +1,2 @@
-pub mod Values
-pub mod Found
+pub mod Answer
+pub mod Sides

@@ -1,7 +1,9 @@
-//! The procedure norm_num: it closes equations of numerals, by the values of their sides.
+//! The procedure norm_num: it evaluates numerical expressions, and decides a goal whose sides have values.
 #![tactic(auto)]
 
-pub mod norm;
+pub mod deciding;
+pub mod lines;
+pub mod procedure;
 
 pub use alg_build::{Outcome, TacFault};
-pub use norm::norm_num;
+pub use procedure::norm_num;

@@ -1,75 +1,58 @@
-ghost use Rattle.std.specs.Prelude.{◌≡◌, ◌↔◌, IfOk, OnErr, IsTrue};
+ghost use Rattle.std.specs.Prelude.{◌≡◌, IfOk, None, OnErr, length};
 ghost use Rattle.alg_expr.specs.Ids.{statement_of, IsStatementIn};
 ghost use Rattle.alg_law.specs.WellSorted.{IsStatement};
-ghost use Rattle.alg_parse.specs.Told.{plain};
-ghost use Rattle.alg_build.specs.Answer.{Answer, FailsBy, Leads};
+ghost use Rattle.alg_lemma.specs.Library.{HoldsLibrary};
+ghost use Rattle.alg_build.specs.Answer.{Leads};
 ghost use Rattle.alg_build.specs.Book.{Grows, LeavesLines};
-ghost use Rattle.alg_normnum.specs.Values.{norm_num_answer};
+ghost use Rattle.alg_exts.specs.Covers.{covered_by, IsEven};
+ghost use Rattle.alg_normnum.specs.Answer.{norm_num_answer};
+ghost use Rattle.alg_steps.specs.Calling.{cover_of};
 ghost use Rattle.alg_steps.specs.Giving.{GivesStep};
-ghost use Rattle.alg_procedures.specs.Table.{as_built, FailsStep, named_step};
+ghost use Rattle.alg_steps.specs.Stepped.{with_note};
+ghost use Rattle.alg_procedures.specs.Table.{named_step};
 
-use alg_build::{Builder, TacFault};
+use alg_build::Builder;
 use alg_expr::Stmt;
-use alg_exts::Exts;
+use alg_exts::{Exts, NumExt, SignExt};
 use alg_normnum::norm_num;
 use alg_parse::{Proc, Procedure};
-use alg_steps::{Made, Procedures, StepFault};
+use alg_steps::{Made, Procedures, StepFault, answered};
 
 /// The procedures of the program.
 pub struct Table;
 
-// what norm_num doesn't take yet is to come
-fn failed(fault: TacFault) -> StepFault
-    ensures { (a : Answer) → FailsBy fault a → FailsStep result (as_built a) }
-{
-    match fault {
-        TacFault::NotThisGoal => StepFault::NotBuilt,
-        TacFault::WrongStructure => StepFault::Fails(TacFault::WrongStructure),
-        TacFault::OutOfRange => StepFault::Fails(TacFault::OutOfRange),
-        TacFault::TooLarge => StepFault::Fails(TacFault::TooLarge),
-        TacFault::SidesDiffer => StepFault::Fails(TacFault::SidesDiffer),
-        TacFault::NoChange => StepFault::Fails(TacFault::NoChange),
-        TacFault::GoalFalse => StepFault::Fails(TacFault::GoalFalse),
-        TacFault::SignUnknown => StepFault::Fails(TacFault::SignUnknown),
-        TacFault::Memory => StepFault::Fails(TacFault::Memory),
-    }
-}
-
-fn call_norm_num(cx: &mut Builder, goal: Stmt) -> Result<Made, StepFault>
+fn call_norm_num(cx: &mut Builder, goal: Stmt, exts: &Exts<'_>) -> Result<Made, StepFault>
     requires here { IsStatementIn cx.old.trees goal }
     requires sorted { IsStatement cx.old.theory.declarations (statement_of cx.old.trees goal) }
-    ensures answer { GivesStep cx.new result (as_built (norm_num_answer (statement_of cx.old.trees goal))) }
+    requires lemmas { HoldsLibrary cx.old.theory.lemmas }
+    requires even { length exts.now.num_on.now ≡ length exts.now.num.now }
+    ensures answer { GivesStep cx.new result (with_note None (norm_num_answer (covered_by (λ x f. (⟦<dyn NumExt as NumExt>⟧ x.vtable).covered x.value f) exts.now.num.now exts.now.num_on.now) cx.old.theory.declarations (statement_of cx.old.trees goal))) }
     ensures leads { IfOk result (λ m. Leads cx.new m.outcome (statement_of cx.old.trees goal)) }
     ensures grows { Grows cx.old cx.new }
     ensures leaves { OnErr result (LeavesLines cx.old cx.new) }
 {
-    match norm_num(cx, goal) {
-        Ok(outcome) => Ok(Made {
-            outcome,
-            note: None,
-        }),
-        Err(fault) => Err(failed(fault)),
-    }
+    answered(norm_num(cx, goal, exts), None)
 }
 
-fn is_norm_num(procedure: Procedure) -> bool
-    ensures { IsTrue result ↔ (procedure ≡ Procedure.NormNum) }
-{
-    matches!(procedure, Procedure::NormNum)
-}
-
-fn call_named(cx: &mut Builder, goal: Stmt, procedure: Procedure) -> Result<Made, StepFault>
+fn call_named(
+    cx: &mut Builder,
+    goal: Stmt,
+    procedure: Procedure,
+    exts: &Exts<'_>,
+) -> Result<Made, StepFault>
     requires here { IsStatementIn cx.old.trees goal }
     requires sorted { IsStatement cx.old.theory.declarations (statement_of cx.old.trees goal) }
-    ensures answer { GivesStep cx.new result (named_step procedure (statement_of cx.old.trees goal)) }
+    requires lemmas { HoldsLibrary cx.old.theory.lemmas }
+    requires even { IsEven exts.now.num.now exts.now.num_on.now exts.now.sign.now exts.now.sign_on.now }
+    ensures answer { GivesStep cx.new result (named_step (cover_of (λ x f. (⟦<dyn NumExt as NumExt>⟧ x.vtable).covered x.value f) (λ x f. (⟦<dyn SignExt as SignExt>⟧ x.vtable).handled x.value f) exts.now.num.now exts.now.num_on.now exts.now.sign.now exts.now.sign_on.now) cx.old.theory.declarations procedure (statement_of cx.old.trees goal)) }
     ensures leads { IfOk result (λ m. Leads cx.new m.outcome (statement_of cx.old.trees goal)) }
     ensures grows { Grows cx.old cx.new }
     ensures leaves { OnErr result (LeavesLines cx.old cx.new) }
 {
-    if is_norm_num(procedure) {
-        return call_norm_num(cx, goal);
+    match procedure {
+        Procedure::NormNum => call_norm_num(cx, goal, exts),
+        _ => Err(StepFault::NotBuilt),
     }
-    Err(StepFault::NotBuilt)
 }
 
 impl Procedures for Table {
@@ -83,10 +66,8 @@ impl Procedures for Table {
         procedure: &Proc,
         exts: &Exts<'_>,
     ) -> Result<Made, StepFault> {
-        // no procedure asks an extension yet
-        let _unused = exts;
         match procedure {
-            Proc::Named(named) => call_named(cx, goal, *named),
+            Proc::Named(named) => call_named(cx, goal, *named, exts),
             Proc::LinearCombination(_) => Err(StepFault::NotBuilt),
         }
     }

@@ -2,6 +2,10 @@
 #![tactic(auto)]
 
 use alg_cli::{Extensions, Host, Memory, RealHost, run};
+use alg_exts::NumExt;
+use alg_normext::{ChooseExt, DivExt, FactExt, FibExt, GcdExt, ModExt, NatSubExt};
+use alg_order_exts::{AbsExt, MinMaxExt};
+use std::alloc::Global;
 use std::io::ErrorKind;
 use std::process::ExitCode;
 
@@ -14,20 +18,36 @@ fn main(rt: HostRuntime) -> ExitCode {
     let alloc = rt.alloc();
     let words = words(&rt);
     let mut host = RealHost::new(rt);
-    match words {
-        Ok(words) => {
-            let exts = Extensions {
-                num: Vec::new(alloc),
-                sign: Vec::new(alloc),
-            };
-            let status = run(alloc, &words, &mut host, &exts);
-            ExitCode::from(status.code())
-        }
+    let code = match words {
+        Ok(words) => run_extended(alloc, &words, &mut host),
+        Err(Memory) => Err(Memory),
+    };
+    match code {
+        Ok(code) => ExitCode::from(code),
         Err(Memory) => {
             let _ = host.complain(OUT_OF_MEMORY_LINE.as_bytes());
             ExitCode::from(OUT_OF_MEMORY)
         }
     }
+}
+
+// The exit status of a run with all extensions.
+fn run_extended(alloc: Global, words: &[String], host: &mut RealHost) -> Result<u8, Memory> {
+    let mut num: Vec<Box<dyn NumExt>> = Vec::new(alloc);
+    num.push(Box::new(alloc, GcdExt)?)?;
+    num.push(Box::new(alloc, DivExt)?)?;
+    num.push(Box::new(alloc, ModExt)?)?;
+    num.push(Box::new(alloc, FactExt)?)?;
+    num.push(Box::new(alloc, ChooseExt)?)?;
+    num.push(Box::new(alloc, FibExt)?)?;
+    num.push(Box::new(alloc, AbsExt)?)?;
+    num.push(Box::new(alloc, MinMaxExt)?)?;
+    num.push(Box::new(alloc, NatSubExt)?)?;
+    let exts = Extensions {
+        num,
+        sign: Vec::new(alloc),
+    };
+    Ok(run(alloc, words, host, &exts).code())
 }
 
 // The words that the program was called with, its own name first. Words that are no text ask for nothing, as no words do.

@@ -19,7 +19,7 @@ use std::alloc::Global;
 use std::process::ExitCode;
 use words::{print, run_words};
 
-const RUNS: [&'static str; 25] = [
+const RUNS: [&'static str; 30] = [
     "algebra prove notation.alg --cert written.cert",
     "algebra check notation.alg written.cert",
     "algebra check notation.alg notation.cert",
@@ -42,7 +42,12 @@ const RUNS: [&'static str; 25] = [
     "algebra demo 6",
     "algebra demo 10001",
     "algebra prove first.alg --without=",
-    "algebra prove norm_num.alg",
+    "algebra prove norm_num.alg --cert written.cert",
+    "algebra check norm_num.alg written.cert",
+    "algebra prove numbers.alg --cert written.cert",
+    "algebra check numbers.alg written.cert",
+    "algebra prove without.alg --without gcd,div,gcd",
+    "algebra prove without.alg --without gdc",
     "algebra prove tactics.alg",
     "algebra prove reading.alg",
 ];

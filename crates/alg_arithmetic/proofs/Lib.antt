@@ -1,0 +1,6 @@
+pub mod Having
+pub mod InversePowers
+pub mod Lists
+pub mod Trees
+pub mod WholeNumbers
+pub mod Evaluations

@@ -1,0 +1,5 @@
+pub mod Parting
+pub mod Finding
+pub mod Walking
+pub mod Asking
+pub mod FoundFacts

@@ -1,0 +1,2 @@
+pub mod PowerNumbers
+pub mod PowerLemmas

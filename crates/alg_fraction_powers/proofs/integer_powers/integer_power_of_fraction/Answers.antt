@@ -1,0 +1,8 @@
+use Rattle.alg_build.proofs.Rewritings.{grows-turns, follows}
+use Rattle.alg_fraction_powers.proofs.integer_powers.integer_power_of_fraction.Goals as goal
+
+pub then-requires : goal.then-requires
+then-requires c = follows _ _ _ _ _ _ _ (grows-turns _ _ c.power_of_fraction.ensures.grows _ _ _ _ c.in_ok-bridged.ensures.turns) c.in_ok-total.ensures.turns
+
+pub returns-clause-turns : goal.returns-clause-turns
+returns-clause-turns c = c.in_ok-r.ensures.turns _ _ _ _ (grows-turns _ _ c.power_of_fraction.ensures.grows _ _ _ _ c.in_ok-bridged.ensures.turns) c.in_ok-total.ensures.turns

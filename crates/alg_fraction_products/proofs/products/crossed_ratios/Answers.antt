@@ -1,0 +1,8 @@
+use Rattle.alg_build.proofs.Rewritings.{grows-turns, follows}
+use Rattle.alg_fraction_products.proofs.products.crossed_ratios.Goals as goal
+
+pub then-requires : goal.then-requires
+then-requires c = follows _ _ _ _ _ _ _ (grows-turns _ _ c.both_reduced.ensures.grows _ _ _ _ c.in_ok-swapped.ensures.turns) c.in_ok-both.ensures.turns
+
+pub returns-clause-turns : goal.returns-clause-turns
+returns-clause-turns c = c.in_ok-r.ensures.turns _ _ _ _ (grows-turns _ _ c.both_reduced.ensures.grows _ _ _ _ c.in_ok-swapped.ensures.turns) c.in_ok-both.ensures.turns

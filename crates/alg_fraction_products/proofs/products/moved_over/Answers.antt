@@ -1,0 +1,25 @@
+use Rattle.alg_build.proofs.Lines.{grows-then}
+use Rattle.alg_build.proofs.Rewritings.{grows-stands}
+use Rattle.alg_numerals.proofs.LiteralLemmas.{own-stands}
+use Rattle.alg_fraction_products.proofs.products.moved_over.Goals as goal
+
+pub mul_div_comm-requires-clause-a_stands : goal.mul_div_comm-requires-clause-a_stands
+mul_div_comm-requires-clause-a_stands c =
+    let g = c.literal-3.ensures.grows in
+    let a = grows-stands _ _ (grows-then _ _ _ c.literal-2.ensures.grows g) _ _ _ c.in_ok-first.ensures.stands in
+    let b = grows-stands _ _ g _ _ _ c.in_ok-second.ensures.stands in
+    own-stands _ _ _ _ a
+
+pub mul_div_comm-requires-clause-c_stands : goal.mul_div_comm-requires-clause-c_stands
+mul_div_comm-requires-clause-c_stands c =
+    let g = c.literal-3.ensures.grows in
+    let a = grows-stands _ _ (grows-then _ _ _ c.literal-2.ensures.grows g) _ _ _ c.in_ok-first.ensures.stands in
+    let b = grows-stands _ _ g _ _ _ c.in_ok-second.ensures.stands in
+    own-stands _ _ _ _ b
+
+pub returns-clause-turns : goal.returns-clause-turns
+returns-clause-turns c =
+    let g = c.literal-3.ensures.grows in
+    let a = grows-stands _ _ (grows-then _ _ _ c.literal-2.ensures.grows g) _ _ _ c.in_ok-first.ensures.stands in
+    let b = grows-stands _ _ g _ _ _ c.in_ok-second.ensures.stands in
+    rw (← a.tree, ← b.tree, ← c.in_ok-over.ensures.stands.tree) c.mul_div_comm.ensures.turns

@@ -1,6 +1,0 @@
-use Rattle.alg_build.proofs.Lines.{keeps}
-use Rattle.alg_build.proofs.Leading.{leaves-grows}
-use Rattle.alg_normnum.proofs.norm.norm_num.Goals as goal
-
-pub returns-in-Err-clause-grows : goal.returns-in-Err-clause-grows
-returns-in-Err-clause-grows c = rw c.back_to.ensures.lines (leaves-grows _ _ (keeps c.args.cx.now c.attempt.new.cx c.mark-mark.result c.attempt.ensures.grows c.mark-mark.ensures.lines c.mark-mark.ensures.conclusions))
