@@ -72,15 +72,10 @@ CRATES = (
     ("alg_ring_rows", "The rows of polynomials, each as a function: its contract is what the row says, over trees.", RING),
 )
 
-# the rows whose names the search doesn't find, and those whose letters it doesn't fill
-NAMED_BY_HAND = (
-    "add_neg_pos", "neg_add_pos", "sub_eq_of_add", "sub_of_neg", "neg_inv_lit", "div_add_same", "div_mul_swap",
-    "div_mul_div", "mul_div_right", "mul_div_left", "mul_div_comm", "div_ne_zero", "neg_ne_pos", "pos_ne_neg", "ne_of_mul",
-    "add_head", "add_head_zero", "add_mul_right", "add_mul_right_zero", "add_nodes", "add_nodes_zero", "add_pair_left",
-    "add_tail_zero", "node_mono_zero",
-)
-FILLED_BY_HAND = ("sub_of_neg", "neg_inv_lit")
-FILLS = {2: "two_fill", 4: "four_fill"}
+# what fills the letters of a row, where its name isn't made of them, and what premises are, by their number
+FILLS = {"": "none_fills", "a": "one_fills", "ab": "two_fill", "abc": "three_fill", "abcd": "four_fill"}
+PREMISES = ("no_premise", "one_premise", "two_premises", "three_premises")
+STATEMENTS = ("no_premise", "one_statement", "two_statements", "three_statements")
 
 LETTERS = "abcdmnij"
 SORTS = {"a": "sort", "b": "sort", "c": "sort", "d": "sort", "m": "Nat", "n": "Nat", "i": "Int", "j": "Int"}
@@ -325,26 +320,41 @@ def file_text(group, about, names, rows, constants):
 
 
 def answers_text(crate, group, name, row):
-    """The answers for a row that the search doesn't find or fill by itself."""
-    classes, premises, conclusion, _ = row
-    said = [Reader(text).statement() for text in premises + [conclusion]]
-    used = set().union(*(letters_in(side) for statement in said for side in statement[1:]))
+    """The answers for a row's call: how it's found by its name, what fills it, and the lines of its premises."""
+    classes, premises, conclusion, lemma = row
+    said = [Reader(text).statement() for text in premises]
+    concluded = Reader(conclusion).statement()
+    used = set().union(*(letters_in(side) for statement in said + [concluded] for side in statement[1:]))
     letters = [letter for letter in LETTERS if letter in used]
-    call = "by_lemma" if said[-1][0] == "Eq" else "by_row"
-    filled = name in FILLED_BY_HAND
-    text = "use Rattle.std.proofs.Common.{refl}\n" if filled else ""
-    text += f"use Rattle.alg_lemma.proofs.Named.{{{name}-named}}\n"
-    if filled:
-        text += f"use Rattle.alg_build.proofs.RowFacts.{{{FILLS[len(letters)]}}}\n"
-    text += f"use Rattle.{crate}.proofs.{group}.{name}.Goals as goal\n\n"
-    text += f"pub {call}-requires-clause-named : goal.{call}-requires-clause-named\n"
-    text += f"{call}-requires-clause-named c = {name}-named _ c.requires.library\n"
-    if filled:
-        text += f"\npub {call}-requires-clause-fills : goal.{call}-requires-clause-fills\n"
-        text += f"{call}-requires-clause-fills c = {FILLS[len(letters)]} _ _ _ (rw c.requires.{snake(classes)} refl)"
-        text += " _" * len(letters) + " refl"
-        text += "".join(f" c.requires.{letter}_stands.sorted" for letter in letters)
-        text += "".join(f" c.requires.{letter}_stands.sort" for letter in letters) + "\n"
+    call = {(True, True): "by_lemma", (True, False): "by_law", (False, True): "by_row", (False, False): "by_law_row"}[concluded[0] == "Eq", lemma]
+    fill = FILLS.get("".join(letters), "fill-" + "".join(letters))
+    needs = [] if classes == "any" else [f"c.requires.{snake(word)}" for word in classes.split(" and ")]
+    met = "refl" if not needs else f"(rw {needs[0] if len(needs) == 1 else '(' + ', '.join(needs) + ')'} refl)"
+    known = [] if not letters or SORTS[letters[0]] == "sort" else ["c.requires.known"]
+    if not letters:
+        known = ["c.requires.known"]
+    filled = f"{fill} _ _ _ {met}" + " _" * len(letters) + " " + " ".join(
+        ["refl"] + known + [f"c.requires.{letter}_stands.sorted" for letter in letters] + [f"c.requires.{letter}_stands.sort" for letter in letters])
+    equations = all(statement[0] == "Eq" for statement in said)
+    fact = (PREMISES if equations else STATEMENTS)[len(said)]
+    lines = []
+    for place, statement in zip(PLACES, said):
+        line = f"c.requires.{place}_line"
+        lines.append(line if equations or statement[0] != "Eq" else f"(proves-concludes _ _ _ _ {line})")
+    blanks = len(said) * (3 if equations else 2) if said else 0
+    premise = f"{fact} _" + " _" * blanks + "".join(f" {line}" for line in lines) if said else "refl"
+    facts = [fill] + ([fact] if said else []) + (["proves-concludes"] if "(proves-concludes" in premise else [])
+    text = "use Rattle.std.proofs.Common.{refl}\n"
+    text += f"use Rattle.alg_{'lemma' if lemma else 'law'}.proofs.Named.{{{name}-named}}\n"
+    text += f"use Rattle.alg_build.proofs.RowFacts.{{{', '.join(facts)}}}\n"
+    text += f"use Rattle.{crate}.proofs.{group}.{name}.Goals as goal\n"
+    for clause, answer in (
+        ("named", f"{name}-named _ c.requires.library" if lemma else f"{name}-named"),
+        ("fills", filled),
+        ("premises", premise),
+    ):
+        text += f"\npub {call}-requires-clause-{clause} : goal.{call}-requires-clause-{clause}\n"
+        text += f"{call}-requires-clause-{clause} c = {answer}\n"
     return text
 
 
@@ -366,10 +376,9 @@ def write_crate(crate, about, groups, rows, constants):
     for group, said, names in groups:
         (folder / "src" / f"{group}.rt").write_text(file_text(group, said, names, rows, constants), encoding="utf-8")
         for name in names:
-            if name in NAMED_BY_HAND:
-                answers = folder / "proofs" / group / name
-                answers.mkdir(parents=True, exist_ok=True)
-                (answers / "Answers.antt").write_text(answers_text(crate, group, name, rows[name]), encoding="utf-8")
+            answers = folder / "proofs" / group / name
+            answers.mkdir(parents=True, exist_ok=True)
+            (answers / "Answers.antt").write_text(answers_text(crate, group, name, rows[name]), encoding="utf-8")
     lib = f"//! {about}\n"
     lib += "#![tactic(auto)]\n\n" + "".join(f"pub mod {group};\n" for group in sorted(group for group, _, _ in groups))
     (folder / "src" / "lib.rt").write_text(lib, encoding="utf-8")

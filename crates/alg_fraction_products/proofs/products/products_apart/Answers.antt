@@ -1,9 +1,33 @@
 use Rattle.alg_build.proofs.Lines.{grows-then}
 use Rattle.alg_numerals.proofs.LiteralLemmas.{own-stands}
 use Rattle.alg_numerals.proofs.RelationLemmas.{grows-compares}
-use Rattle.alg_fractions.proofs.SizeLemmas.{grows-quotients}
+use Rattle.alg_fractions.proofs.SizeLemmas.{grows-quotients, above-differs}
 use Rattle.alg_fraction_products.proofs.ProductLemmas.{own-first}
 use Rattle.alg_fraction_products.proofs.products.products_apart.Goals as goal
+
+pub compared_literals-requires-clause-holds : goal.compared_literals-requires-clause-holds
+compared_literals-requires-clause-holds c = above-differs _ c.requires.first_above
+
+pub compared_literals-requires-2-clause-holds : goal.compared_literals-requires-2-clause-holds
+compared_literals-requires-2-clause-holds c = above-differs _ c.requires.second_above
+
+pub two_literals-requires-clause-literals : goal.two_literals-requires-clause-literals
+two_literals-requires-clause-literals c = (grows-quotients _ _ (grows-then _ _ _ c.compared_literals.ensures.grows c.compared_literals-2.ensures.grows) _ c.requires.quotients).signs.literals
+
+pub div_mul_div-requires-clause-a_stands : goal.div_mul_div-requires-clause-a_stands
+div_mul_div-requires-clause-a_stands c = own-stands _ _ _ _ c.in_ok-a.ensures.first
+
+pub div_mul_div-requires-clause-c_stands : goal.div_mul_div-requires-clause-c_stands
+div_mul_div-requires-clause-c_stands c = own-stands _ _ _ _ c.in_ok-a.ensures.second
+
+pub div_mul_div-requires-clause-field : goal.div_mul_div-requires-clause-field
+div_mul_div-requires-clause-field c = (grows-quotients _ _ (grows-then _ _ _ c.compared_literals.ensures.grows (grows-then _ _ _ c.compared_literals-2.ensures.grows c.two_literals.ensures.grows)) _ c.requires.quotients).field
+
+pub div_mul_div-requires-clause-library : goal.div_mul_div-requires-clause-library
+div_mul_div-requires-clause-library c = (grows-quotients _ _ (grows-then _ _ _ c.compared_literals.ensures.grows (grows-then _ _ _ c.compared_literals-2.ensures.grows c.two_literals.ensures.grows)) _ c.requires.quotients).signs.literals.library
+
+pub returns-clause-grows : goal.returns-clause-grows
+returns-clause-grows c = (grows-then _ _ _ c.compared_literals.ensures.grows (grows-then _ _ _ c.compared_literals-2.ensures.grows (grows-then _ _ _ c.two_literals.ensures.grows c.div_mul_div.ensures.grows)))
 
 pub compared_literals-requires-2-clause-literals : goal.compared_literals-requires-2-clause-literals
 compared_literals-requires-2-clause-literals c = (grows-quotients _ _ c.compared_literals.ensures.grows _ c.requires.quotients).signs.literals

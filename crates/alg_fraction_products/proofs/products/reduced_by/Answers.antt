@@ -3,7 +3,17 @@ use Rattle.alg_build.proofs.Rewritings.{grows-stands, begins}
 use Rattle.alg_numerals.proofs.LiteralLemmas.{grows-combines, own-stands, own-line}
 use Rattle.alg_fractions.proofs.SizeLemmas.{grows-quotients, above-differs}
 use Rattle.alg_fraction_products.proofs.ProductLemmas.{left-within, right-within}
+use Rattle.alg_build.proofs.Lines.{grows-then}
 use Rattle.alg_fraction_products.proofs.products.reduced_by.Goals as goal
+
+pub eq_div_of_mul-requires-clause-field : goal.eq_div_of_mul-requires-clause-field
+eq_div_of_mul-requires-clause-field c = (grows-quotients _ _ (grows-then _ _ _ c.size_product.ensures.grows c.compared_literals.ensures.grows) _ c.requires.quotients).field
+
+pub eq_div_of_mul-requires-clause-library : goal.eq_div_of_mul-requires-clause-library
+eq_div_of_mul-requires-clause-library c = (grows-quotients _ _ (grows-then _ _ _ c.size_product.ensures.grows c.compared_literals.ensures.grows) _ c.requires.quotients).signs.literals.library
+
+pub returns-clause-grows : goal.returns-clause-grows
+returns-clause-grows c = (grows-then _ _ _ c.size_product.ensures.grows (grows-then _ _ _ c.compared_literals.ensures.grows (grows-then _ _ _ c.eq_div_of_mul.ensures.grows c.back.ensures.grows)))
 
 pub size_product-requires-clause-first_small : goal.size_product-requires-clause-first_small
 size_product-requires-clause-first_small c = left-within c.args.n c.args.g _ c.requires.factor_above c.requires.small

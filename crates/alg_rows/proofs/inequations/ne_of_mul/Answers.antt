@@ -1,5 +1,13 @@
+use Rattle.std.proofs.Common.{refl}
 use Rattle.alg_lemma.proofs.Named.{ne_of_mul-named}
+use Rattle.alg_build.proofs.RowFacts.{three_fill, two_statements}
 use Rattle.alg_rows.proofs.inequations.ne_of_mul.Goals as goal
 
 pub by_row-requires-clause-named : goal.by_row-requires-clause-named
 by_row-requires-clause-named c = ne_of_mul-named _ c.requires.library
+
+pub by_row-requires-clause-fills : goal.by_row-requires-clause-fills
+by_row-requires-clause-fills c = three_fill _ _ _ (rw c.requires.field refl) _ _ _ refl c.requires.a_stands.sorted c.requires.b_stands.sorted c.requires.c_stands.sorted c.requires.a_stands.sort c.requires.b_stands.sort c.requires.c_stands.sort
+
+pub by_row-requires-clause-premises : goal.by_row-requires-clause-premises
+by_row-requires-clause-premises c = two_statements _ _ _ _ _ c.requires.first_line c.requires.second_line

@@ -1,6 +1,6 @@
 use Rattle.std.proofs.Common.{refl}
 use Rattle.alg_lemma.proofs.Named.{sub_of_neg-named}
-use Rattle.alg_build.proofs.RowFacts.{four_fill}
+use Rattle.alg_build.proofs.RowFacts.{four_fill, two_premises}
 use Rattle.alg_rows.proofs.sums.sub_of_neg.Goals as goal
 
 pub by_lemma-requires-clause-named : goal.by_lemma-requires-clause-named
@@ -8,3 +8,6 @@ by_lemma-requires-clause-named c = sub_of_neg-named _ c.requires.library
 
 pub by_lemma-requires-clause-fills : goal.by_lemma-requires-clause-fills
 by_lemma-requires-clause-fills c = four_fill _ _ _ (rw c.requires.add_group refl) _ _ _ _ refl c.requires.a_stands.sorted c.requires.b_stands.sorted c.requires.c_stands.sorted c.requires.d_stands.sorted c.requires.a_stands.sort c.requires.b_stands.sort c.requires.c_stands.sort c.requires.d_stands.sort
+
+pub by_lemma-requires-clause-premises : goal.by_lemma-requires-clause-premises
+by_lemma-requires-clause-premises c = two_premises _ _ _ _ _ _ _ c.requires.first_line c.requires.second_line

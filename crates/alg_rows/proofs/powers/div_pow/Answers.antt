@@ -1,0 +1,13 @@
+use Rattle.std.proofs.Common.{refl}
+use Rattle.alg_lemma.proofs.Named.{div_pow-named}
+use Rattle.alg_build.proofs.RowFacts.{fill-abcdn, three_statements, proves-concludes}
+use Rattle.alg_rows.proofs.powers.div_pow.Goals as goal
+
+pub by_lemma-requires-clause-named : goal.by_lemma-requires-clause-named
+by_lemma-requires-clause-named c = div_pow-named _ c.requires.library
+
+pub by_lemma-requires-clause-fills : goal.by_lemma-requires-clause-fills
+by_lemma-requires-clause-fills c = fill-abcdn _ _ _ (rw c.requires.field refl) _ _ _ _ _ refl c.requires.a_stands.sorted c.requires.b_stands.sorted c.requires.c_stands.sorted c.requires.d_stands.sorted c.requires.n_stands.sorted c.requires.a_stands.sort c.requires.b_stands.sort c.requires.c_stands.sort c.requires.d_stands.sort c.requires.n_stands.sort
+
+pub by_lemma-requires-clause-premises : goal.by_lemma-requires-clause-premises
+by_lemma-requires-clause-premises c = three_statements _ _ _ _ _ _ _ (proves-concludes _ _ _ _ c.requires.first_line) (proves-concludes _ _ _ _ c.requires.second_line) c.requires.third_line

@@ -1,0 +1,13 @@
+use Rattle.std.proofs.Common.{refl}
+use Rattle.alg_lemma.proofs.Named.{zpow_neg_lit0-named}
+use Rattle.alg_build.proofs.RowFacts.{fill-abci, two_premises}
+use Rattle.alg_rows.proofs.powers.zpow_neg_lit0.Goals as goal
+
+pub by_lemma-requires-clause-named : goal.by_lemma-requires-clause-named
+by_lemma-requires-clause-named c = zpow_neg_lit0-named _ c.requires.library
+
+pub by_lemma-requires-clause-fills : goal.by_lemma-requires-clause-fills
+by_lemma-requires-clause-fills c = fill-abci _ _ _ (rw c.requires.field refl) _ _ _ _ refl c.requires.a_stands.sorted c.requires.b_stands.sorted c.requires.c_stands.sorted c.requires.i_stands.sorted c.requires.a_stands.sort c.requires.b_stands.sort c.requires.c_stands.sort c.requires.i_stands.sort
+
+pub by_lemma-requires-clause-premises : goal.by_lemma-requires-clause-premises
+by_lemma-requires-clause-premises c = two_premises _ _ _ _ _ _ _ c.requires.first_line c.requires.second_line
